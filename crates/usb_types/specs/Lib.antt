@@ -1,0 +1,4 @@
+pub mod Causes
+pub mod Codes
+pub mod Ends
+pub mod Lends

@@ -1,0 +1,37 @@
+ghost use Rattle.std.specs.Prelude.{◌≡◌};
+ghost use Rattle.usb_types.specs.Codes.{errno_of};
+
+use crate::errno::Errno;
+
+/// An URB, by its number in the host's pool.
+#[derive(Clone, Copy, Debug, PartialEq, Eq)]
+pub struct UrbId(pub u32);
+
+/// Why an URB is unlinked.
+#[derive(Clone, Copy, Debug, PartialEq, Eq)]
+pub enum Why {
+    Unlink,
+    Kill,
+    Shutdown,
+}
+
+impl Why {
+    /// The status with which an URB that is unlinked so comes back.
+    pub fn errno(self) -> Errno
+        ensures { result ≡ errno_of self }
+    {
+        match self {
+            Why::Unlink => Errno::ECONNRESET,
+            Why::Kill => Errno::ENOENT,
+            Why::Shutdown => Errno::ESHUTDOWN,
+        }
+    }
+}
+
+/// A standing reason to refuse submits of an URB: its device is gone, its interface was unbound, or the host is down.
+#[derive(Clone, Copy, Debug, PartialEq, Eq)]
+pub enum Flag {
+    Gone,
+    Off,
+    Down,
+}
