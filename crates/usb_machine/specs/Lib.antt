@@ -1,0 +1,5 @@
+pub mod State
+pub mod Shapes
+pub mod History
+pub mod Parts
+pub mod Legal

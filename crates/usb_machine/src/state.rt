@@ -1,0 +1,29 @@
+use usb_types::{Code, Why};
+
+/// What is settled of a queued URB's status.
+#[derive(Clone, Copy, Debug, PartialEq, Eq)]
+pub enum Mark {
+    Clear,
+    Unlinked(Why),
+    Finished(Code),
+}
+
+/// The flags that stand on an URB.
+#[derive(Clone, Copy, Debug, PartialEq, Eq)]
+pub struct Flags {
+    pub gone: bool,
+    pub off: bool,
+    pub down: bool,
+}
+
+/// The state of an URB: whether it is queued, its mark, its rejects, its flags, how many completion handlers of it
+/// run, and the number of the transfer that rests with it.
+#[derive(Clone, Copy, Debug, PartialEq, Eq)]
+pub struct UrbState {
+    pub queued: bool,
+    pub mark: Mark,
+    pub rejects: u64,
+    pub flags: Flags,
+    pub handlers: u64,
+    pub rest: Option<u64>,
+}

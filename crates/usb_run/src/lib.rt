@@ -1,0 +1,4 @@
+//! The program `usbrun` as one call.
+#![tactic(auto)]
+
+mod scene;

@@ -1,0 +1,68 @@
+//! What a scene says.
+use usb_machine::Shape;
+use usb_types::{Buf, List};
+use usb_xfer::Reply;
+
+/// A scene, or as much of one as was read: devices, URBs, and the scripts of threads.
+#[derive(Debug, Drop)]
+pub struct Scene {
+    pub devices: List<SceneDevice>,
+    pub urbs: List<SceneUrb>,
+    pub threads: List<SceneThread>,
+}
+
+/// A device with its endpoints beside 00, and its scripted answers, a list for each `answer` line.
+#[derive(Debug, Drop)]
+pub struct SceneDevice {
+    pub name: Buf,
+    pub ends: List<Shape>,
+    pub answers: List<Answers>,
+}
+
+/// What the device answers at an address, after what earlier lines of this address say.
+#[derive(Debug, Drop)]
+pub struct Answers {
+    pub address: u8,
+    pub items: List<Item>,
+}
+
+/// The reply to so many calls in a row.
+#[derive(Debug, Drop)]
+pub struct Item {
+    pub times: u32,
+    pub reply: Reply,
+}
+
+/// An URB of a device's endpoint, whose submits carry a buffer of `len` zero bytes.
+#[derive(Debug, Drop)]
+pub struct SceneUrb {
+    pub name: Buf,
+    /// The device's number in the scene.
+    pub device: u32,
+    pub address: u8,
+    /// In bytes.
+    pub len: u32,
+}
+
+/// A thread with its script.
+#[derive(Debug, Drop)]
+pub struct SceneThread {
+    pub name: Buf,
+    pub calls: List<Call>,
+}
+
+/// A call on a line of the scene.
+#[derive(Clone, Copy, Debug, PartialEq, Eq)]
+pub struct Call {
+    pub line: u32,
+    pub kind: CallKind,
+}
+
+/// What a call does.
+#[derive(Clone, Copy, Debug, PartialEq, Eq)]
+pub enum CallKind {
+    /// Submits an URB of the scene, by its number there.
+    Submit(u32),
+    /// Lets the controller make turns until one gives nothing back.
+    Serve,
+}

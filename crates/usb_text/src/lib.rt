@@ -1,0 +1,2 @@
+//! The lines and words of a scene, and the words of a report.
+#![tactic(auto)]
