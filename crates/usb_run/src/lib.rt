@@ -1,5 +1,8 @@
 //! The program `usbrun` as one call.
 #![tactic(auto)]
 
+mod input;
 mod made;
+mod output;
+mod report;
 mod scene;
