@@ -4,5 +4,7 @@ pub mod Run
 pub mod Given
 pub mod Report
 pub mod Io
+pub mod Status
+pub mod Words
 pub mod WellFormed
 pub mod Line
