@@ -1,5 +1,5 @@
 -- Which transfers an endpoint takes at all.
-use Rattle.std.specs.Prelude.{ℕ, ◌+◌, ◌*◌, Bool, true, false, not, ◌&&◌, ◌||◌, ◌==◌, if◌then◌else◌, List, Option, Some, None, slice_index}
+use Rattle.std.specs.Prelude.{ℕ, ◌+◌, ◌*◌, Bool, true, false, ◌==◌, if◌then◌else◌, List, Option, Some, None, slice_index}
 use Rattle.usb_types.specs.declared.errno.Errno.{Errno}
 use Rattle.usb_types.specs.declared.errno.Errno.TheVariants.{ENOEXEC, EBADR, EMSGSIZE, EINVAL}
 use Rattle.usb_machine.specs.declared.layout.EndKind.{EndKind}
