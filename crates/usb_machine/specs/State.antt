@@ -1,6 +1,6 @@
 -- The state of an URB: what an event answers there, and what an event with its answer changes.
 -- After `struct urb` and `urb.c`, `hcd.c` of the kernel: `use_count`, `reject`, `unlinked`.
-use Rattle.std.specs.Prelude.{ℕ, ◌+◌, ◌-◌, Bool, true, false, ◌==◌, if◌then◌else◌, List, [], ◌∷◌, Option, Some, None}
+use Rattle.std.specs.Prelude.{ℕ, ◌+◌, ◌-◌, Bool, true, false, ◌==◌, if◌then◌else◌, List, [], ◌∷◌, Some, None}
 use Rattle.usb_types.specs.declared.errno.Errno.TheVariants.{EBUSY, ENODEV, EPERM, ENOENT, ESHUTDOWN, EIDRM, EINPROGRESS}
 use Rattle.usb_types.specs.declared.errno.Code.{Code}
 use Rattle.usb_types.specs.declared.errno.Code.TheVariants.{Zero, Fault}

@@ -1,14 +1,18 @@
 //! The URB object as a machine of fourteen events, and its legal histories.
 #![tactic(auto)]
 
+mod change;
 mod entry;
 mod event;
 mod layout;
+mod plain;
+mod queues;
 mod state;
 mod transfer;
 
 pub use entry::{Entry, HUB, SERVER};
 pub use event::{Answer, Event};
 pub use layout::{EndKind, Layout, Shape};
+pub use plain::Plain;
 pub use state::{Flags, Mark, UrbState};
 pub use transfer::Transfer;
