@@ -3,3 +3,4 @@ pub mod Prepared
 pub mod Run
 pub mod WellFormed
 pub mod Line
+pub mod Statements
