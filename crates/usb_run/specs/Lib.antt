@@ -4,3 +4,4 @@ pub mod Run
 pub mod WellFormed
 pub mod Line
 pub mod Statements
+pub mod Rules

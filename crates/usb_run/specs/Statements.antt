@@ -101,3 +101,13 @@ statement_of word.Submit (urb ∷ []) = do
   Some (say.Submit urb)
 statement_of word.Serve [] = Some say.Serve
 statement_of _ _ = None
+
+-- the first word of the line that says this
+abbrev pub keyword_said : Statement → Keyword
+keyword_said (say.Device name) = word.Device
+keyword_said (say.Ep address size) = word.Ep
+keyword_said (say.Answer address items) = word.Answer
+keyword_said (say.Urb name device address len) = word.Urb
+keyword_said (say.Thread name) = word.Thread
+keyword_said (say.Submit urb) = word.Submit
+keyword_said say.Serve = word.Serve

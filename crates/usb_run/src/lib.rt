@@ -2,5 +2,7 @@
 #![tactic(auto)]
 
 mod made;
+mod draft;
+mod rules;
 mod scene;
 mod statement;
