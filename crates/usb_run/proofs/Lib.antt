@@ -1,1 +1,3 @@
 pub mod Scenes
+pub mod Formed
+pub mod Reading

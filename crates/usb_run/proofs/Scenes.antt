@@ -57,7 +57,7 @@ room_with scene r c line (say.Device name) room place within =
       devices = omega (arith, ltb-true (length scene.devices) 1 within, length_push scene.devices new);
       urbs = room.urbs;
       replies = omega (arith, room.replies, sum_by_push replies_in scene.devices new);
-      calls = omega (arith, room.calls)
+      calls = omega (arith, room.calls);
     }
 room_with scene r c line (say.Ep address size) room place within =
     let f : SceneDevice → SceneDevice = with_end (bulk_end scene address size) in
@@ -65,7 +65,7 @@ room_with scene r c line (say.Ep address size) room place within =
       devices = omega (arith, room.devices, length-on_last f scene.devices);
       urbs = room.urbs;
       replies = omega (arith, room.replies, sum_by-on_last_same replies_in f (λ d. refl) scene.devices);
-      calls = omega (arith, room.calls)
+      calls = omega (arith, room.calls);
     }
 room_with scene r c line (say.Answer address items) room place within =
     let answers : Answers = record { address = address; items = items } in
@@ -76,7 +76,7 @@ room_with scene r c line (say.Answer address items) room place within =
       devices = omega (arith, room.devices, length-on_last f scene.devices);
       urbs = room.urbs;
       replies = omega (arith, room.replies, leb-true (all_replies scene + replies_of items) 65536 within, sum_by-on_last replies_in f (replies_of items) more scene.devices some);
-      calls = omega (arith, room.calls)
+      calls = omega (arith, room.calls);
     }
 room_with scene r c line (say.Urb name device address len) room place within =
     let new : SceneUrb = record { name = name; device = unwrap_or (device_number scene device) 0; address = address; len = len } in
@@ -85,7 +85,7 @@ room_with scene r c line (say.Urb name device address len) room place within =
       devices = room.devices;
       urbs = omega (arith, few, length_push scene.urbs new);
       replies = omega (arith, room.replies);
-      calls = omega (arith, room.calls)
+      calls = omega (arith, room.calls);
     }
 room_with scene r c line (say.Thread name) room place within =
     let new : SceneThread = record { name = name; calls = [] } in
@@ -93,7 +93,7 @@ room_with scene r c line (say.Thread name) room place within =
       devices = room.devices;
       urbs = room.urbs;
       replies = omega (arith, room.replies);
-      calls = omega (arith, room.calls, sum_by_push calls_in scene.threads new)
+      calls = omega (arith, room.calls, sum_by_push calls_in scene.threads new);
     }
 room_with scene r c line (say.Submit urb) room place within =
     let new : Call = record { line = line; kind = call.Submit (unwrap_or (urb_number scene urb) 0) } in
@@ -102,7 +102,7 @@ room_with scene r c line (say.Submit urb) room place within =
       devices = room.devices;
       urbs = room.urbs;
       replies = omega (arith, room.replies);
-      calls = omega (arith, room.calls, ltb-true (all_calls scene) 4096 within, sum_by-on_last calls_in (with_call new) 1 more scene.threads (not_empty scene.threads place))
+      calls = omega (arith, room.calls, ltb-true (all_calls scene) 4096 within, sum_by-on_last calls_in (with_call new) 1 more scene.threads (not_empty scene.threads place));
     }
 room_with scene r c line say.Serve room place within =
     let new : Call = record { line = line; kind = call.Serve } in
@@ -111,5 +111,5 @@ room_with scene r c line say.Serve room place within =
       devices = room.devices;
       urbs = room.urbs;
       replies = omega (arith, room.replies);
-      calls = omega (arith, room.calls, ltb-true (all_calls scene) 4096 within, sum_by-on_last calls_in (with_call new) 1 more scene.threads (not_empty scene.threads place))
+      calls = omega (arith, room.calls, ltb-true (all_calls scene) 4096 within, sum_by-on_last calls_in (with_call new) 1 more scene.threads (not_empty scene.threads place));
     }

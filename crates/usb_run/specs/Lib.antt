@@ -5,3 +5,4 @@ pub mod WellFormed
 pub mod Line
 pub mod Statements
 pub mod Rules
+pub mod Read

@@ -11,13 +11,19 @@ use std::marker::Model;
 use usb_types::{List, Memory};
 
 const MOST_DEVICES: usize = 1;
+
 const MOST_ENDS: usize = 1;
+
 const MOST_URBS: usize = 1;
+
 const MOST_THREADS: usize = 1;
+
 const MOST_REPLIES: u32 = 65536;
+
 const MOST_CALLS: u32 = 4096;
 // In bytes.
 const MOST_PACKET: u32 = 1024;
+
 const MOST_BUFFER: u32 = 16384;
 
 /// The scene so far. Contracts see the scene.

@@ -1,8 +1,9 @@
 //! The program `usbrun` as one call.
 #![tactic(auto)]
 
-mod made;
 mod draft;
+mod made;
+mod read;
 mod rules;
 mod scene;
 mod statement;

@@ -24,12 +24,29 @@ pub enum Keyword {
 /// What a line says, by itself.
 #[derive(Debug, Drop)]
 pub enum Statement {
-    Device { name: Buf },
-    Ep { address: u8, size: u32 },
-    Answer { address: u8, items: List<Item> },
-    Urb { name: Buf, device: Buf, address: u8, len: u32 },
-    Thread { name: Buf },
-    Submit { urb: Buf },
+    Device {
+        name: Buf,
+    },
+    Ep {
+        address: u8,
+        size: u32,
+    },
+    Answer {
+        address: u8,
+        items: List<Item>,
+    },
+    Urb {
+        name: Buf,
+        device: Buf,
+        address: u8,
+        len: u32,
+    },
+    Thread {
+        name: Buf,
+    },
+    Submit {
+        urb: Buf,
+    },
     Serve,
 }
 
