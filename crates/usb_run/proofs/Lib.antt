@@ -1,1 +1,4 @@
 pub mod ThreadTexts
+pub mod Scenes
+pub mod Formed
+pub mod Reading

@@ -8,3 +8,6 @@ pub mod Status
 pub mod Words
 pub mod WellFormed
 pub mod Line
+pub mod Statements
+pub mod Rules
+pub mod Read
