@@ -1,0 +1,5 @@
+pub mod Script
+pub mod Prepared
+pub mod Run
+pub mod WellFormed
+pub mod Line

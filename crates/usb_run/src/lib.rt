@@ -1,4 +1,5 @@
 //! The program `usbrun` as one call.
 #![tactic(auto)]
 
+mod made;
 mod scene;

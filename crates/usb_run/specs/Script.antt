@@ -1,0 +1,21 @@
+-- What a script replies to the calls of one address, by the number of the calls before.
+use Rattle.std.specs.Prelude.{ℕ, zero, suc, ◌+◌, ◌-◌, ◌==◌, nat_lt, if◌then◌else◌, List, [], ◌∷◌, ◌++◌}
+use Rattle.usb_xfer.specs.declared.device.Reply.{Reply}
+use Rattle.usb_xfer.specs.declared.device.Reply.TheVariants.{Nak}
+use Rattle.usb_run.specs.declared.scene.Item.{Item}
+use Rattle.usb_run.specs.declared.scene.Answers.{Answers}
+
+-- an item replies as often as it says, and after the last comes Nak
+abbrev pub reply_at : List Item → ℕ → Reply
+reply_at [] n = Nak
+reply_at (item ∷ items) n = if nat_lt n item.times then item.reply else reply_at items (n - item.times)
+
+-- the next n replies, where m calls came before
+abbrev pub stretch : List Item → ℕ → ℕ → List Reply
+stretch items m zero = []
+stretch items m (suc n) = reply_at items m ∷ stretch items (suc m) n
+
+-- the items of an address, joined in the order of their lines
+abbrev pub items_at : ℕ → List Answers → List Item
+items_at address [] = []
+items_at address (said ∷ others) = (if said.address == address then said.items else []) ++ items_at address others

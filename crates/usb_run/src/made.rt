@@ -1,0 +1,32 @@
+//! What a run leaves for its report.
+use crate::scene::Call;
+use usb_types::{Buf, Code};
+
+/// What a call answers.
+#[derive(Clone, Copy, Debug, PartialEq, Eq)]
+pub enum Told {
+    /// Of a serve.
+    Nothing,
+    Code(Code),
+}
+
+/// A call that was made, with its answer.
+#[derive(Clone, Copy, Debug, PartialEq, Eq)]
+pub struct Made {
+    /// The thread's number in the scene.
+    pub thread: u32,
+    pub call: Call,
+    pub answer: Told,
+}
+
+/// What a Give gave back.
+#[derive(Debug, Drop)]
+pub struct Given {
+    /// The URB's number in the scene.
+    pub urb: u32,
+    pub status: Code,
+    /// How many bytes were moved.
+    pub actual: u32,
+    /// The moved bytes of an IN transfer.
+    pub bytes: Buf,
+}
