@@ -1,2 +1,5 @@
 pub mod Homes
 pub mod MayFollow
+pub mod Takes
+pub mod Rounds
+pub mod Submits
