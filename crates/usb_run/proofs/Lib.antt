@@ -3,3 +3,7 @@ pub mod MayFollow
 pub mod Takes
 pub mod Rounds
 pub mod Submits
+pub mod Stretches
+pub mod Passes
+pub mod AtHome
+pub mod Holds
