@@ -7,3 +7,5 @@ pub mod Stretches
 pub mod Passes
 pub mod AtHome
 pub mod Holds
+pub mod Calls
+pub mod Lines
