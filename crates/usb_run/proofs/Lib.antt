@@ -9,3 +9,4 @@ pub mod AtHome
 pub mod Holds
 pub mod Calls
 pub mod Lines
+pub mod Alone

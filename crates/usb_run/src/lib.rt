@@ -1,5 +1,8 @@
 //! The program `usbrun` as one call.
 #![tactic(auto)]
 
+mod laws;
 mod made;
 mod scene;
+
+pub use laws::{a_run_in_line_order_is_a_run, a_scene_has_one_run_in_line_order};
