@@ -1,5 +1,5 @@
 -- A scene has one run in line order.
-use Rattle.std.proofs.Common.{ℕ, zero, suc, ◌≡◌, ◌≢◌, ◌<◌, Option, Some, None, List, [], ◌∷◌, ◌++◌, map, refl, sym, ap, ◌∙◌, subst, arith}
+use Rattle.std.proofs.Common.{ℕ, ◌≡◌, ◌≢◌, ◌<◌, List, [], ◌∷◌, ◌++◌, map, refl, sym, ap, ◌∙◌, subst, arith}
 use mathlib.Core.Logic.{dite}
 use native.Mathlib.Decide.{ℕ_discrete, dec_lt}
 use Rattle.std.proofs.lemmas.List.{map-append}
@@ -12,12 +12,11 @@ use Rattle.usb_xfer.specs.declared.packet.Step.TheVariants.{More, Waiting, Ended
 use Rattle.usb_xfer.specs.Moved.{moved_state}
 use Rattle.usb_run.specs.declared.scene.Scene.{Scene}
 use Rattle.usb_run.specs.declared.scene.Call.{Call}
-use Rattle.usb_run.specs.declared.scene.CallKind.{CallKind}
 use Rattle.usb_run.specs.declared.scene.CallKind.TheVariants as call
 use Rattle.usb_run.specs.declared.made.Made.{Made}
 use Rattle.usb_run.specs.declared.made.Told.TheVariants as told
 use Rattle.usb_run.specs.Prepared.{max_of}
-use Rattle.usb_run.specs.Line.{Far, nowhere, taken, had_after, GoesTo, IsServed, round_of, given_back, waits, GivesBack, none, one, IsIdle, nothing, waiting, with_call, with_serve, IsLine, start, submit, serve, IsLineRun}
+use Rattle.usb_run.specs.Line.{Far, taken, had_after, GoesTo, IsServed, round_of, given_back, waits, GivesBack, none, one, IsIdle, nothing, waiting, with_call, with_serve, IsLine, start, submit, serve, IsLineRun}
 use Rattle.usb_run.proofs.Lines.{gives_made, idle_made}
 use Rattle.usb_run.proofs.Calls.{placed}
 

@@ -1,12 +1,11 @@
 -- After a legal history an URB stands in its home's line and pending list alone.
-use Rattle.std.proofs.Common.{ℕ, ◌≡◌, true, false, cond, eqb, List, [], ◌∷◌, ◌++◌, refl, sym, ap, ◌∙◌, subst, eq-eqb, ne_eqb}
+use Rattle.std.proofs.Common.{ℕ, ◌≡◌, true, false, cond, eqb, List, [], ◌∷◌, ◌++◌, sym, ap, ◌∙◌, subst, eq-eqb, ne_eqb}
 use Rattle.std.specs.List.{All}
 use Rattle.std.proofs.lemmas.List.Elements.{All-nil, All-cons, All-head, All-tail, All-push, All-append, All-filter}
 use mathlib.Core.Logic.{dite}
 use native.Mathlib.Decide.{ℕ_discrete}
 use Rattle.usb_machine.specs.declared.event.Event.{Event}
 use Rattle.usb_machine.specs.declared.event.Event.TheVariants.{Submit, Link, Take, Mark, Finish, Give, Rest, End, Reject, Withdraw, Quiet, Claim, Flag, Unflag}
-use Rattle.usb_machine.specs.declared.event.Answer.{Answer}
 use Rattle.usb_machine.specs.declared.state.UrbState.{UrbState}
 use Rattle.usb_machine.specs.declared.entry.Entry.{Entry}
 use Rattle.usb_machine.specs.State.{answer_of, first_of}
@@ -52,7 +51,7 @@ module _ (g : Machine) (e : ℕ) where
   take_home : (d : ℕ) (lines : ℕ → List ℕ) (us : List ℕ) → AtHome (lines e) → AtHome us → AtHome (cond (eqb d e) (us ++ taken (first_of (lines d))) us)
   take_home d lines us l a = dite (ℕ_discrete d e)
       (λ is. subst (λ b. AtHome (cond b (us ++ taken (first_of (lines d))) us)) (sym (eq-eqb d e is))
-          (subst (λ (d : ℕ). AtHome (us ++ taken (first_of (lines d)))) (sym is) (All-append (λ u. home_of g u ≡ e) us (taken (first_of (lines e))) a (first_home (lines e) l))))
+      (subst (λ (d : ℕ). AtHome (us ++ taken (first_of (lines d)))) (sym is) (All-append (λ u. home_of g u ≡ e) us (taken (first_of (lines e))) a (first_home (lines e) l))))
       (λ off. subst (λ b. AtHome (cond b (us ++ taken (first_of (lines d))) us)) (sym (ne_eqb d e off)) a)
 
   pending_home : (lines : ℕ → List ℕ) (t : UrbState) (event : Event) (us : List ℕ) → AtHome (lines e) → AtHome us

@@ -22,11 +22,11 @@ use Rattle.usb_run.specs.declared.scene.CallKind.TheVariants as call
 use Rattle.usb_run.specs.declared.made.Made.{Made}
 use Rattle.usb_run.specs.declared.made.Told.TheVariants as told
 use Rattle.usb_run.specs.Prepared.{thread_pass, machine_of}
-use Rattle.usb_run.specs.Run.{Round, entry, call_entries, round_entries, episode_of, is_take, made_by}
+use Rattle.usb_run.specs.Run.{Round, call_entries, round_entries, episode_of, is_take, made_by}
 use Rattle.usb_run.specs.WellFormed.{IsWellFormed}
 use Rattle.usb_run.specs.Line.{served_end, takes}
 use Rattle.usb_run.proofs.MayFollow.{finish, finished, IsReady}
-use Rattle.usb_run.proofs.Takes.{took, takes_legal, takes_sent}
+use Rattle.usb_run.proofs.Takes.{took, takes_legal}
 use Rattle.usb_run.proofs.Rounds.{round_legal}
 use Rattle.usb_run.proofs.Submits.{submitted, submit_legal}
 use Rattle.usb_run.proofs.Passes.{IsOf, grows, stays, not_server, not_hub, other_threads, takes_pass, entries_pass}
@@ -69,13 +69,13 @@ takes_end_none b (u ∷ us) = takes_end_none (b ++ took u ∷ []) us
 
 pub takes_hold : (s : Scene) (h : List Entry) (made : List Made) (rounds : List Round) → Holds s h made rounds → Holds s (h ++ takes (line_of (machine_of s) h served_end)) made rounds
 takes_hold s h made rounds old = let us = line_of (machine_of s) h served_end in record {
-    legal = takes_legal s us h refl old.legal;
-    threads = threads_stay s h (takes us) made SERVER (takes_pass us) (λ i e. not_server i (sym e)) old.threads;
-    server = ap served (grows SERVER h (takes us) (takes_pass us))
-        ∙ (filter-append (λ x. not (is_take x.event)) (part_of h SERVER) (takes us)
-        ∙ (ap (λ l. served (part_of h SERVER) ++ l) (takes_served us) ∙ (append-nil (served (part_of h SERVER)) ∙ old.server)));
-    hub = stays SERVER h (takes us) (takes_pass us) HUB (λ e. absurd (omega arith)) ∙ old.hub;
-    gives = no_episode h (takes us) (takes_end_none h us) ∙ old.gives;
+  legal = takes_legal s us h refl old.legal;
+  threads = threads_stay s h (takes us) made SERVER (takes_pass us) (λ i e. not_server i (sym e)) old.threads;
+  server = ap served (grows SERVER h (takes us) (takes_pass us))
+      ∙ (filter-append (λ x. not (is_take x.event)) (part_of h SERVER) (takes us)
+      ∙ (ap (λ l. served (part_of h SERVER) ++ l) (takes_served us) ∙ (append-nil (served (part_of h SERVER)) ∙ old.server)));
+  hub = stays SERVER h (takes us) (takes_pass us) HUB (λ e. absurd (omega arith)) ∙ old.hub;
+  gives = no_episode h (takes us) (takes_end_none h us) ∙ old.gives;
 }
 
 module _ (s : Scene) (h : List Entry) (r : Round) where
@@ -87,15 +87,15 @@ module _ (s : Scene) (h : List Entry) (r : Round) where
 
   pub round_holds : IsReady s h r → (made : List Made) (rounds : List Round) → sent_of h r.urb ≡ Some r.sent → Holds s h made rounds → Holds s (h ++ round_entries s r) made (rounds ++ r ∷ [])
   round_holds ready made rounds sent old = record {
-      legal = round_legal s h r ready old.legal;
-      threads = threads_stay s h (round_entries s r) made SERVER round_pass (λ i e. not_server i (sym e)) old.threads;
-      server = ap served (grows SERVER h (round_entries s r) round_pass)
-          ∙ (filter-append (λ x. not (is_take x.event)) (part_of h SERVER) (round_entries s r)
-          ∙ ((λ i. old.server i ++ round_entries s r) ∙ sym (flat_map-append (round_entries s) rounds (r ∷ []))));
-      hub = stays SERVER h (round_entries s r) round_pass HUB (λ e. absurd (omega arith)) ∙ old.hub;
-      gives = episodes-append [] h (round_entries s r)
-          ∙ ((λ i. old.gives i ++ (the_episode ((sent_finished ∙ sent) i) ∷ []))
-          ∙ sym (map-append episode_of rounds (r ∷ [])));
+    legal = round_legal s h r ready old.legal;
+    threads = threads_stay s h (round_entries s r) made SERVER round_pass (λ i e. not_server i (sym e)) old.threads;
+    server = ap served (grows SERVER h (round_entries s r) round_pass)
+        ∙ (filter-append (λ x. not (is_take x.event)) (part_of h SERVER) (round_entries s r)
+        ∙ ((λ i. old.server i ++ round_entries s r) ∙ sym (flat_map-append (round_entries s) rounds (r ∷ []))));
+    hub = stays SERVER h (round_entries s r) round_pass HUB (λ e. absurd (omega arith)) ∙ old.hub;
+    gives = episodes-append [] h (round_entries s r)
+        ∙ ((λ i. old.gives i ++ (the_episode ((sent_finished ∙ sent) i) ∷ []))
+        ∙ sym (map-append episode_of rounds (r ∷ [])));
   }
     where
       the_episode : Option Transfer → Episode
@@ -119,12 +119,12 @@ module _ (s : Scene) (h : List Entry) (m : Made) (made : List Made) where
       → (i : ℕ) → part_of (h ++ call_entries s m) (thread_pass i) ≡ flat_map (call_entries s) (made_by i (made ++ m ∷ []))
   call_threads old i = dite (ℕ_discrete m.thread i)
       (λ is.
-        let made_is : made_by i (made ++ m ∷ []) ≡ made_by i made ++ m ∷ [] = made_by-push i ∙ ap (λ b. made_by i made ++ cond b (m ∷ []) []) (eq-eqb m.thread i is) in
-        let part_is = grows (thread_pass i) h xs (subst (λ (j : ℕ). IsOf (thread_pass j) xs) is call_pass) in
-        part_is ∙ ((λ k. old i k ++ sym (append-nil xs) k) ∙ (sym (flat_map-append (call_entries s) (made_by i made) (m ∷ [])) ∙ ap all_calls (sym made_is))))
+      let made_is : made_by i (made ++ m ∷ []) ≡ made_by i made ++ m ∷ [] = made_by-push i ∙ ap (λ b. made_by i made ++ cond b (m ∷ []) []) (eq-eqb m.thread i is) in
+      let part_is = grows (thread_pass i) h xs (subst (λ (j : ℕ). IsOf (thread_pass j) xs) is call_pass) in
+      part_is ∙ ((λ k. old i k ++ sym (append-nil xs) k) ∙ (sym (flat_map-append (call_entries s) (made_by i made) (m ∷ [])) ∙ ap all_calls (sym made_is))))
       (λ off.
-        let made_is : made_by i (made ++ m ∷ []) ≡ made_by i made = made_by-push i ∙ (ap (λ b. made_by i made ++ cond b (m ∷ []) []) (ne_eqb m.thread i off) ∙ append-nil (made_by i made)) in
-        stays (thread_pass m.thread) h xs call_pass (thread_pass i) (other_threads m.thread i off) ∙ (old i ∙ ap all_calls (sym made_is)))
+      let made_is : made_by i (made ++ m ∷ []) ≡ made_by i made = made_by-push i ∙ (ap (λ b. made_by i made ++ cond b (m ∷ []) []) (ne_eqb m.thread i off) ∙ append-nil (made_by i made)) in
+      stays (thread_pass m.thread) h xs call_pass (thread_pass i) (other_threads m.thread i off) ∙ (old i ∙ ap all_calls (sym made_is)))
 
 no_gives : (s : Scene) (h : List Entry) (thread line u : ℕ) (c : Code) → episodes_after h (submitted s h thread line u c) ≡ []
 no_gives s h thread line u Zero = refl
@@ -138,19 +138,19 @@ module _ (s : Scene) (good : IsWellFormed s) (h : List Entry) (thread line u : �
   pub submit_holds : (made : List Made) (rounds : List Round) → Holds s h made rounds → Holds s (h ++ call_entries s made_now) (made ++ made_now ∷ []) rounds
   submit_holds made rounds old =
       let q = thread_pass thread in let xs = call_entries s made_now in let is = call_pass s h made_now made in record {
-          legal = submit_legal s h thread line u good there near old.legal;
-          threads = call_threads s h made_now made old.threads;
-          server = ap served (stays q h xs is SERVER (not_server thread)) ∙ old.server;
-          hub = stays q h xs is HUB (not_hub thread) ∙ old.hub;
-          gives = no_episode h xs (no_gives s h thread line u (refusal (state_of h u))) ∙ old.gives;
+        legal = submit_legal s h thread line u good there near old.legal;
+        threads = call_threads s h made_now made old.threads;
+        server = ap served (stays q h xs is SERVER (not_server thread)) ∙ old.server;
+        hub = stays q h xs is HUB (not_hub thread) ∙ old.hub;
+        gives = no_episode h xs (no_gives s h thread line u (refusal (state_of h u))) ∙ old.gives;
       }
 
 -- a serve adds to the list of calls alone
 pub serve_holds : (s : Scene) (h : List Entry) (m : Made) (made : List Made) (rounds : List Round) → call_entries s m ≡ [] → Holds s h made rounds → Holds s h (made ++ m ∷ []) rounds
 serve_holds s h m made rounds none old = record {
-    legal = old.legal;
-    threads = λ i. ap (λ l. part_of l (thread_pass i)) (sym (append-nil h) ∙ ap (λ l. h ++ l) (sym none)) ∙ call_threads s h m made old.threads i;
-    server = old.server;
-    hub = old.hub;
-    gives = old.gives;
+  legal = old.legal;
+  threads = λ i. ap (λ l. part_of l (thread_pass i)) (sym (append-nil h) ∙ ap (λ l. h ++ l) (sym none)) ∙ call_threads s h m made old.threads i;
+  server = old.server;
+  hub = old.hub;
+  gives = old.gives;
 }

@@ -1,11 +1,9 @@
 -- In a well-formed scene each URB's home is the served endpoint, and that endpoint takes its transfers.
-use Rattle.std.proofs.Common.{ℕ, zero, suc, ◌≡◌, ◌≤◌, ◌<◌, ◌+◌, cond, Option, Some, None, List, [], ◌∷◌, ◌++◌, length, map, refl, sym, ap, ◌∙◌, subst, arith, ne_eqb}
+use Rattle.std.proofs.Common.{ℕ, zero, suc, ◌≡◌, ◌≤◌, ◌<◌, cond, Option, Some, None, List, [], ◌∷◌, ◌++◌, length, map, refl, sym, ap, ◌∙◌, subst, arith, ne_eqb}
 use Rattle.std.specs.Prelude.{slice_index_or, slice_get}
 use Rattle.std.specs.List.{All}
 use Rattle.std.proofs.lemmas.List.Quantifiers.{position-Some}
 use Rattle.usb_types.specs.declared.errno.Errno.TheVariants.{EMSGSIZE, EINVAL}
-use Rattle.usb_machine.specs.declared.layout.EndKind.{EndKind}
-use Rattle.usb_machine.specs.declared.layout.EndKind.TheVariants.{Bulk}
 use Rattle.usb_machine.specs.declared.layout.Shape.{Shape}
 use Rattle.usb_machine.specs.declared.transfer.Transfer.{Transfer}
 use Rattle.usb_machine.specs.Shapes.{setup_fault, lacks_service, else_fault, shape_fault}

@@ -10,3 +10,4 @@ pub mod Holds
 pub mod Calls
 pub mod Lines
 pub mod Alone
+pub mod RunExamples

@@ -1,22 +1,19 @@
 -- The run in line order is a run.
-use Rattle.std.proofs.Common.{ℕ, zero, suc, ◌≡◌, ◌≢◌, ◌+◌, ◌<◌, Bool, true, false, cond, eqb, Option, Some, None, List, [], ◌∷◌, ◌++◌, length, map, filter, take, refl, sym, ap, ◌∙◌, subst, arith, append_assoc, append-nil, length-append, zero-add, eq-eqb, ne_eqb}
+use Rattle.std.proofs.Common.{ℕ, ◌≡◌, ◌≢◌, ◌+◌, ◌<◌, Bool, true, false, cond, List, [], ◌∷◌, ◌++◌, length, take, refl, sym, ap, ◌∙◌, subst, arith, append_assoc, append-nil, length-append, zero-add, eq-eqb, ne_eqb}
 use Rattle.std.specs.List.{flat_map, All}
-use Rattle.std.proofs.lemmas.List.Elements.{All-nil, All-cons, All-head, All-tail, All-push, All-append}
+use Rattle.std.proofs.lemmas.List.Elements.{All-nil, All-cons, All-head, All-tail, All-push}
 use Rattle.std.proofs.lemmas.Grind.{flat_map-append}
 use Rattle.std.proofs.Math.Seq.{take-append_seam}
 use mathlib.Core.Logic.{dite}
 use native.Mathlib.Decide.{ℕ_discrete}
 use Rattle.usb_types.specs.declared.errno.Code.{Code}
-use Rattle.usb_types.specs.declared.errno.Code.TheVariants.{Zero, Fault}
 use Rattle.usb_machine.specs.declared.state.Mark.TheVariants.{Clear}
 use Rattle.usb_machine.specs.declared.state.UrbState.{UrbState}
 use Rattle.usb_machine.specs.declared.transfer.Transfer.{Transfer}
 use Rattle.usb_machine.specs.declared.entry.Entry.{Entry}
 use Rattle.usb_machine.specs.State.{refusal, is_zero}
 use Rattle.usb_machine.specs.History.{home_of, state_of, line_of}
-use Rattle.usb_machine.specs.Parts.{part_of}
 use Rattle.usb_machine.specs.Legal.{empty}
-use Rattle.usb_xfer.specs.declared.device.Reply.{Reply}
 use Rattle.usb_xfer.specs.declared.packet.Step.TheVariants.{Ended}
 use Rattle.usb_run.specs.declared.scene.Scene.{Scene}
 use Rattle.usb_run.specs.declared.scene.Item.{Item}
@@ -24,10 +21,10 @@ use Rattle.usb_run.specs.declared.scene.CallKind.TheVariants as call
 use Rattle.usb_run.specs.declared.made.Made.{Made}
 use Rattle.usb_run.specs.declared.made.Told.TheVariants as told
 use Rattle.usb_run.specs.Script.{stretch}
-use Rattle.usb_run.specs.Prepared.{machine_of, script_of, calls_of, main_pass}
-use Rattle.usb_run.specs.Run.{Round, call_entries, round_entries, IsRound, replies_in, rounds_at, made_by, IsRun}
+use Rattle.usb_run.specs.Prepared.{machine_of, script_of}
+use Rattle.usb_run.specs.Run.{Round, call_entries, round_entries, IsRound, replies_in, rounds_at, IsRun}
 use Rattle.usb_run.specs.WellFormed.{IsWellFormed}
-use Rattle.usb_run.specs.Line.{served_end, Far, nowhere, spent, takes, taken, had_after, GoesTo, IsServed, round_of, given_back, waits, GivesBack, none, one, IsIdle, nothing, waiting, with_call, with_serve, IsLine, start, submit, serve, IsLineRun}
+use Rattle.usb_run.specs.Line.{served_end, Far, spent, taken, had_after, GoesTo, IsServed, round_of, given_back, waits, GivesBack, none, one, IsIdle, nothing, waiting, IsLine, start, submit, serve, IsLineRun}
 use Rattle.usb_run.proofs.MayFollow.{IsReady}
 use Rattle.usb_run.proofs.Takes.{takes_state}
 use Rattle.usb_run.proofs.Rounds.{round_state, round_other}
@@ -88,11 +85,11 @@ module _ (s : Scene) where
 
   after_take : (f : Far) → Runs s f → Runs s (taken s f)
   after_take f old = record {
-      holds = takes_hold s f.history f.made f.rounds old.holds;
-      calm = λ v. ap (λ (t : UrbState). t.mark) (takes_state f.history (line_of (machine_of s) f.history served_end) v) ∙ old.calm v;
-      tiles = old.tiles;
-      moves = old.moves;
-      homes = old.homes;
+    holds = takes_hold s f.history f.made f.rounds old.holds;
+    calm = λ v. ap (λ (t : UrbState). t.mark) (takes_state f.history (line_of (machine_of s) f.history served_end) v) ∙ old.calm v;
+    tiles = old.tiles;
+    moves = old.moves;
+    homes = old.homes;
   }
 
   -- the replies so far with the next n
@@ -120,11 +117,11 @@ module _ (s : Scene) where
       let is = all ∙ longer_tiles f n old.tiles in
       let long : spent f + n ≡ length (replies_in (f.rounds ++ r ∷ [])) + 0 = let a = ap length is in let b = length-stretch script 0 (spent f + n) in omega arith in
       record {
-          holds = round_holds s f.history r ready f.made f.rounds at.transfer old.holds;
-          calm = round_calm f.history r old.calm;
-          tiles = append-nil (replies_in (f.rounds ++ r ∷ [])) ∙ (is ∙ ap (stretch script 0) long);
-          moves = All-push (IsRound s) f.rounds r old.moves record { state = goes.state; whole = goes.whole };
-          homes = All-push (IsServedRound s) f.rounds r old.homes home;
+        holds = round_holds s f.history r ready f.made f.rounds at.transfer old.holds;
+        calm = round_calm f.history r old.calm;
+        tiles = append-nil (replies_in (f.rounds ++ r ∷ [])) ∙ (is ∙ ap (stretch script 0) long);
+        moves = All-push (IsRound s) f.rounds r old.moves record { state = goes.state; whole = goes.whole };
+        homes = All-push (IsServedRound s) f.rounds r old.homes home;
       }
 
   submit_calm : (h : List Entry) (thread line u : ℕ) (c : Code) → IsCalm h → IsCalm (h ++ submitted s h thread line u c)
@@ -147,22 +144,22 @@ module _ (s : Scene) where
   -- a run in line order so far has all of a run but the calls that are not made yet
   pub runs : IsWellFormed s → (f : Far) → IsLine s f → All (IsMadeThere s) f.made → Runs s f
   runs good _ start there = record {
-      holds = record { legal = empty; threads = λ i. refl; server = refl; hub = refl; gives = refl };
-      calm = λ v. refl;
-      tiles = refl;
-      moves = All-nil (IsRound s);
-      homes = All-nil (IsServedRound s);
+    holds = record { legal = empty; threads = λ i. refl; server = refl; hub = refl; gives = refl };
+    calm = λ v. refl;
+    tiles = refl;
+    moves = All-nil (IsRound s);
+    homes = All-nil (IsServedRound s);
   }
   runs good _ (submit f thread l u line near) there =
       let m : Made = record { thread = thread; call = record { line = l; kind = call.Submit u }; answer = told.Code (refusal (state_of f.history u)) } in
       let old = runs good f line (All-front (IsMadeThere s) f.made (m ∷ []) there) in
       let here : thread < length s.threads = All-last (IsMadeThere s) f.made m there in
       record {
-          holds = submit_holds s good f.history thread l u here near f.made f.rounds old.holds;
-          calm = submit_calm f.history thread l u (refusal (state_of f.history u)) old.calm;
-          tiles = old.tiles;
-          moves = old.moves;
-          homes = old.homes;
+        holds = submit_holds s good f.history thread l u here near f.made f.rounds old.holds;
+        calm = submit_calm f.history thread l u (refusal (state_of f.history u)) old.calm;
+        tiles = old.tiles;
+        moves = old.moves;
+        homes = old.homes;
       }
   runs good _ (serve f m e thread l line gave rests) there =
       let c : Made = record { thread = thread; call = record { line = l; kind = call.Serve }; answer = told.Nothing } in
@@ -170,11 +167,11 @@ module _ (s : Scene) where
       let before = subst (All (IsMadeThere s)) made (All-front (IsMadeThere s) e.made (c ∷ []) there) in
       let old = idle m e rests (gives_back f m gave (runs good f line before)) in
       record {
-          holds = serve_holds s e.history c e.made e.rounds refl old.holds;
-          calm = old.calm;
-          tiles = old.tiles;
-          moves = old.moves;
-          homes = old.homes;
+        holds = serve_holds s e.history c e.made e.rounds refl old.holds;
+        calm = old.calm;
+        tiles = old.tiles;
+        moves = old.moves;
+        homes = old.homes;
       }
 
   -- the replies of the rounds are the first of the script
@@ -189,7 +186,7 @@ module _ (s : Scene) where
   replies_at : (f : Far) → Runs s f → (e : ℕ) → let had = replies_in (rounds_at s e f.rounds) in had ≡ stretch (script_of s e) 0 (length had)
   replies_at f r e = dite (ℕ_discrete served_end e)
       (λ is. subst (λ (l : List Round). replies_in l ≡ stretch (script_of s e) 0 (length (replies_in l))) (sym (rounds_here s e f.rounds is r.homes))
-          (subst (λ (e : ℕ). replies_in f.rounds ≡ stretch (script_of s e) 0 (length (replies_in f.rounds))) is (whole_tiles f r.tiles)))
+      (subst (λ (e : ℕ). replies_in f.rounds ≡ stretch (script_of s e) 0 (length (replies_in f.rounds))) is (whole_tiles f r.tiles)))
       (λ off. subst (λ (l : List Round). replies_in l ≡ stretch (script_of s e) 0 (length (replies_in l))) (sym (rounds_elsewhere s e f.rounds off r.homes)) refl)
 
   -- the run in line order through all calls is a run of the scene
@@ -199,13 +196,13 @@ module _ (s : Scene) where
       let r = runs good f line.in_line there in
       let h = r.holds in
       record {
-          legal = h.legal;
-          calls = calls_made s f.made line.all;
-          threads = λ i l. h.threads i;
-          server = h.server;
-          hub = h.hub;
-          main = h.threads (length s.threads) ∙ ap (flat_map (call_entries s)) (made_by_none (length s.threads) f.made there);
-          gives = h.gives;
-          replies = replies_at f r;
-          moves = r.moves;
+        legal = h.legal;
+        calls = calls_made s f.made line.all;
+        threads = λ i l. h.threads i;
+        server = h.server;
+        hub = h.hub;
+        main = h.threads (length s.threads) ∙ ap (flat_map (call_entries s)) (made_by_none (length s.threads) f.made there);
+        gives = h.gives;
+        replies = replies_at f r;
+        moves = r.moves;
       }

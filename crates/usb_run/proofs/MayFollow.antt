@@ -1,5 +1,5 @@
 -- Each entry of a call and of a turn may follow where the run has come.
-use Rattle.std.proofs.Common.{ℕ, ◌≡◌, ◌+◌, ◌-◌, ◌<◌, Bool, true, false, ◌&&◌, cond, eqb, Option, Some, None, List, [], ◌∷◌, ◌++◌, length, refl, sym, ap, ◌∙◌, subst, arith, eq-eqb}
+use Rattle.std.proofs.Common.{ℕ, ◌≡◌, ◌+◌, ◌-◌, ◌<◌, true, false, ◌&&◌, cond, eqb, Option, Some, None, List, [], ◌∷◌, ◌++◌, length, refl, sym, ap, ◌∙◌, subst, arith, eq-eqb}
 use Rattle.usb_types.specs.declared.errno.Code.{Code}
 use Rattle.usb_types.specs.declared.errno.Code.TheVariants.{Zero}
 use Rattle.usb_machine.specs.declared.entry.TheConstants.{SERVER}
@@ -11,7 +11,7 @@ use Rattle.usb_machine.specs.declared.transfer.Transfer.{Transfer}
 use Rattle.usb_machine.specs.declared.entry.Entry.{Entry}
 use Rattle.usb_machine.specs.State.{refusal, is_clear, status_of, first_of, after}
 use Rattle.usb_machine.specs.History.{home_of, state_of, after_entry, line_of, pending_of}
-use Rattle.usb_machine.specs.Parts.{part_of, owes, owes_after}
+use Rattle.usb_machine.specs.Parts.{part_of, owes}
 use Rattle.usb_machine.specs.Legal.{IsFirst, times, Follows}
 use Rattle.usb_machine.proofs.Steps.{state_of-snoc, pending_of-snoc, owes_own}
 use Rattle.usb_run.specs.declared.scene.Scene.{Scene}
@@ -30,10 +30,10 @@ module _ (s : Scene) (h : List Entry) where
   pub take_follows : (u : ℕ) (us : List ℕ) → line_of (machine_of s) h served_end ≡ u ∷ us
       → Follows (machine_of s) h (entry SERVER (Take served_end) (Urb record { 0 = u }) None)
   take_follows u us e = record {
-      pass = omega arith;
-      may = (refl, subst (λ (l : List ℕ). 0 < length l) (sym e) (omega arith));
-      answers = ap first_of (sym e);
-      carries = refl;
+    pass = omega arith;
+    may = (refl, subst (λ (l : List ℕ). 0 < length l) (sym e) (omega arith));
+    answers = ap first_of (sym e);
+    carries = refl;
   }
 
   -- the server finishes the first pending URB, which no mark stands on
@@ -41,10 +41,10 @@ module _ (s : Scene) (h : List Entry) where
       → pending_of (machine_of s) h served_end ≡ u ∷ others → (state_of h u).mark ≡ Clear
       → Follows (machine_of s) h (entry SERVER (Finish record { 0 = u } code) (Truth true) None)
   finish_follows u others code home first mark = record {
-      pass = omega arith;
-      may = (refl, subst (λ (e : ℕ). IsFirst u (pending_of (machine_of s) h e)) (sym home) (subst (IsFirst u) (sym first) refl));
-      answers = ap Truth (sym (ap is_clear mark));
-      carries = refl;
+    pass = omega arith;
+    may = (refl, subst (λ (e : ℕ). IsFirst u (pending_of (machine_of s) h e)) (sym home) (subst (IsFirst u) (sym first) refl));
+    answers = ap Truth (sym (ap is_clear mark));
+    carries = refl;
   }
 
   -- the server gives the first pending URB back, with the code that it finished it with
@@ -52,10 +52,10 @@ module _ (s : Scene) (h : List Entry) where
       → pending_of (machine_of s) h served_end ≡ u ∷ others → (state_of h u).mark ≡ Finished code
       → Follows (machine_of s) h (entry SERVER (Give record { 0 = u }) (Status code) None)
   give_follows u others code home first mark = record {
-      pass = omega arith;
-      may = (refl, subst (λ (e : ℕ). 0 < times u (pending_of (machine_of s) h e)) (sym home) (once u _ others first), ap is_clear mark);
-      answers = ap (λ m. Status (status_of m)) (sym mark);
-      carries = refl;
+    pass = omega arith;
+    may = (refl, subst (λ (e : ℕ). 0 < times u (pending_of (machine_of s) h e)) (sym home) (once u _ others first), ap is_clear mark);
+    answers = ap (λ m. Status (status_of m)) (sym mark);
+    carries = refl;
   }
 
   -- while its handler runs, the transfer rests with the URB
@@ -70,10 +70,10 @@ module _ (s : Scene) (h : List Entry) where
   pub submit_follows : IsWellFormed s → (thread u line : ℕ) → thread < length s.threads → u < length s.urbs
       → Follows (machine_of s) h (entry (thread_pass thread) (Submit record { 0 = u } line) (Status (refusal (state_of h u))) (Some (fresh s line u)))
   submit_follows good thread u line there near = record {
-      pass = omega arith;
-      may = has_home s good u near;
-      answers = refl;
-      carries = (refl, refl, home_takes s good u near line);
+    pass = omega arith;
+    may = has_home s good u near;
+    answers = refl;
+    carries = (refl, refl, home_takes s good u near line);
   }
 
   -- a thread links the URB whose Link it owes

@@ -1,8 +1,8 @@
 -- What is left when the server gave an URB back and its handler ran.
-use Rattle.std.proofs.Common.{ℕ, ◌≡◌, ◌≢◌, ◌-◌, ◌+◌, Bool, false, not, cond, eqb, Option, Some, None, List, [], ◌∷◌, ◌++◌, fold, refl, sym, ap, ◌∙◌, subst, append_assoc, eq-eqb, ne_eqb}
+use Rattle.std.proofs.Common.{ℕ, ◌≡◌, ◌≢◌, Bool, false, not, cond, Some, None, List, [], ◌∷◌, ◌++◌, refl, sym, ap, ◌∙◌, subst, append_assoc, eq-eqb, ne_eqb}
 use Rattle.std.proofs.lemmas.List.Sums.{fold-append}
-use Rattle.usb_machine.specs.declared.event.Event.TheVariants.{Finish, Give, Rest, End}
-use Rattle.usb_machine.specs.declared.event.Answer.TheVariants.{Nothing, Code as Status, Truth}
+use Rattle.usb_machine.specs.declared.event.Event.TheVariants.{Give, End}
+use Rattle.usb_machine.specs.declared.event.Answer.TheVariants.{Nothing, Code as Status}
 use Rattle.usb_machine.specs.declared.state.Mark.TheVariants.{Clear, Finished}
 use Rattle.usb_machine.specs.declared.entry.Entry.{Entry}
 use Rattle.usb_machine.specs.declared.state.UrbState.{UrbState}
@@ -43,8 +43,10 @@ module _ (s : Scene) (h : List Entry) (r : Round) where
     where
       step1 : Bool → UrbState
       step1 b = cond b (record (state_of h v) { mark = Finished r.status }) (state_of h v)
+
       step2 : Bool → UrbState
       step2 b = cond b (after (Give record { 0 = r.urb }) (Status r.status) (step1 b)) (step1 b)
+
       step3 : Bool → UrbState
       step3 b = cond b (record (step2 b) { rest = Some r.sent.number }) (step2 b)
 

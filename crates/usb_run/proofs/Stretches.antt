@@ -1,5 +1,5 @@
 -- Stretches of a script.
-use Rattle.std.proofs.Common.{ℕ, zero, suc, ◌≡◌, ◌+◌, ◌≤◌, List, [], ◌∷◌, ◌++◌, length, take, refl, sym, ap, ◌∙◌, arith}
+use Rattle.std.proofs.Common.{ℕ, zero, suc, ◌≡◌, ◌+◌, ◌≤◌, List, [], ◌∷◌, ◌++◌, length, take, refl, ap, ◌∙◌, arith}
 use Rattle.usb_xfer.specs.declared.device.Reply.{Reply}
 use Rattle.usb_run.specs.declared.scene.Item.{Item}
 use Rattle.usb_run.specs.Script.{reply_at, stretch}

@@ -1,17 +1,15 @@
 -- What is left when a thread submitted an URB.
-use Rattle.std.proofs.Common.{ℕ, ◌≡◌, ◌≢◌, ◌<◌, Bool, true, false, cond, eqb, Option, Some, None, List, [], ◌∷◌, ◌++◌, length, fold, refl, sym, ap, ◌∙◌, subst, append_assoc, eq-eqb, ne_eqb}
+use Rattle.std.proofs.Common.{ℕ, ◌≡◌, ◌≢◌, ◌<◌, true, false, cond, eqb, Some, None, List, [], ◌∷◌, ◌++◌, length, fold, refl, sym, ap, ◌∙◌, subst, append_assoc, eq-eqb, ne_eqb}
 use Rattle.std.proofs.lemmas.List.Sums.{fold-append}
 use Rattle.usb_types.specs.declared.errno.Code.{Code}
 use Rattle.usb_types.specs.declared.errno.Code.TheVariants.{Zero, Fault}
 use Rattle.usb_machine.specs.declared.event.Event.TheVariants.{Submit, Link}
 use Rattle.usb_machine.specs.declared.event.Answer.TheVariants.{Nothing, Code as Status}
 use Rattle.usb_machine.specs.declared.state.Mark.TheVariants.{Clear}
-use Rattle.usb_machine.specs.declared.transfer.Transfer.{Transfer}
 use Rattle.usb_machine.specs.declared.entry.Entry.{Entry}
-use Rattle.usb_machine.specs.declared.state.UrbState.{UrbState}
 use Rattle.usb_machine.specs.State.{opening, refusal, is_zero}
 use Rattle.usb_machine.specs.History.{home_of, state_of, after_entry, line_of, line_after, pending_of, pending_after, sent_of, sent_after}
-use Rattle.usb_machine.specs.Legal.{IsLegal, longer, Follows}
+use Rattle.usb_machine.specs.Legal.{IsLegal, longer}
 use Rattle.usb_run.specs.declared.scene.Scene.{Scene}
 use Rattle.usb_run.specs.declared.scene.CallKind.TheVariants as call
 use Rattle.usb_run.specs.declared.made.Told.TheVariants as told
@@ -54,6 +52,7 @@ module _ (s : Scene) (h : List Entry) (thread line u : ℕ) where
     where
       apart : eqb u v ≡ false
       apart = ne_eqb u v (λ e. off (sym e))
+
       go : (c : Code) → fold (after_entry v) (state_of h v) (submitted c) ≡ state_of h v
       go Zero = ap (λ b. cond b (cond b (record (state_of h v) { queued = true; mark = Clear }) (state_of h v)) (cond b (record (state_of h v) { queued = true; mark = Clear }) (state_of h v))) apart
       go (Fault x) = ap (λ b. cond b (state_of h v) (state_of h v)) apart
