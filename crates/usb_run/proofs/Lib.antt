@@ -11,3 +11,4 @@ pub mod Calls
 pub mod Lines
 pub mod Alone
 pub mod RunExamples
+pub mod ThreadTexts

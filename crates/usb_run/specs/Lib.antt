@@ -1,5 +1,10 @@
 pub mod Script
 pub mod Prepared
 pub mod Run
+pub mod Given
+pub mod Report
+pub mod Io
+pub mod Status
+pub mod Words
 pub mod WellFormed
 pub mod Line

@@ -63,40 +63,40 @@ module _ (max : ℕ) (old now new : Transfer) (more : List Reply) (r : Reply) (s
 
   pub goes_on : step ≡ More → GoneOn max old new (more ++ r ∷ [])
   goes_on is = record {
-      window = window;
-      so_far = λ start before w o q. let f = g.so_far start before w o q in let l = a.last start (before ++ more) w f.going f.transfer in
-          let same = append_assoc before more (r ∷ []) in
-          let state : moved_state max start (before ++ (more ++ r ∷ [])) ≡ More = ap (moved_state max start) (sym same) ∙ (sym l.state ∙ is) in
-          record {
-              transfer = l.transfer ∙ ap (moved max start) same;
-              going = open_state _ _ state;
-              each = λ k p q. dite (ℕ_discrete k (length (more ++ r ∷ [])))
-                  (λ e. subst (λ l. moved_state max start (before ++ l) ≡ More) (sym (ap (λ (n : ℕ). take n (more ++ r ∷ [])) e ∙ take-length (more ++ r ∷ []))) state)
-                  (λ e. let n = length-append more (r ∷ []) in let s : k ≤ length more = omega arith in subst (λ l. moved_state max start (before ++ l) ≡ More) (sym (shorter k s)) (f.each k p s));
-          };
+    window = window;
+    so_far = λ start before w o q. let f = g.so_far start before w o q in let l = a.last start (before ++ more) w f.going f.transfer in
+        let same = append_assoc before more (r ∷ []) in
+        let state : moved_state max start (before ++ (more ++ r ∷ [])) ≡ More = ap (moved_state max start) (sym same) ∙ (sym l.state ∙ is) in
+        record {
+          transfer = l.transfer ∙ ap (moved max start) same;
+          going = open_state _ _ state;
+          each = λ k p q. dite (ℕ_discrete k (length (more ++ r ∷ [])))
+              (λ e. subst (λ l. moved_state max start (before ++ l) ≡ More) (sym (ap (λ (n : ℕ). take n (more ++ r ∷ [])) e ∙ take-length (more ++ r ∷ []))) state)
+              (λ e. let n = length-append more (r ∷ []) in let s : k ≤ length more = omega arith in subst (λ l. moved_state max start (before ++ l) ≡ More) (sym (shorter k s)) (f.each k p s));
+        };
   }
 
   pub stops_at : step ≢ More → RunsOn max old new (more ++ r ∷ []) step
   stops_at off = record {
-      window = window;
-      some = let n = length-append more (r ∷ []) in omega arith;
-      stopped = off;
-      stops = λ start before w o q. let f = g.so_far start before w o q in let l = a.last start (before ++ more) w f.going f.transfer in
-          let same = append_assoc before more (r ∷ []) in
-          record {
-              transfer = l.transfer ∙ ap (moved max start) same;
-              state = l.state ∙ ap (moved_state max start) same;
-              whole = subst (IsWhole max start) same l.whole;
-              each = λ k p q. let n = length-append more (r ∷ []) in let s : k ≤ length more = omega arith in subst (λ l. moved_state max start (before ++ l) ≡ More) (sym (shorter k s)) (f.each k p s);
-          };
+    window = window;
+    some = let n = length-append more (r ∷ []) in omega arith;
+    stopped = off;
+    stops = λ start before w o q. let f = g.so_far start before w o q in let l = a.last start (before ++ more) w f.going f.transfer in
+        let same = append_assoc before more (r ∷ []) in
+        record {
+          transfer = l.transfer ∙ ap (moved max start) same;
+          state = l.state ∙ ap (moved_state max start) same;
+          whole = subst (IsWhole max start) same l.whole;
+          each = λ k p q. let n = length-append more (r ∷ []) in let s : k ≤ length more = omega arith in subst (λ l. moved_state max start (before ++ l) ≡ More) (sym (shorter k s)) (f.each k p s);
+        };
   }
 
 pub gone_nowhere : (max : ℕ) (t : Transfer) → HasWindow t → GoneOn max t t []
 gone_nowhere max t w = record {
-    window = w;
-    so_far = λ start before u o q. record {
-        transfer = q ∙ ap (moved max start) (sym (append-nil before));
-        going = subst (IsOpen max start) (sym (append-nil before)) o;
-        each = λ k p q. absurd (omega arith);
-    };
+  window = w;
+  so_far = λ start before u o q. record {
+    transfer = q ∙ ap (moved max start) (sym (append-nil before));
+    going = subst (IsOpen max start) (sym (append-nil before)) o;
+    each = λ k p q. absurd (omega arith);
+  };
 }

@@ -1,4 +1,6 @@
--- How a list of replies moves a transfer of an IN endpoint.
+-- How a list of replies moves a transfer of an IN endpoint: its bytes, and whether it goes on, waits or has ended.
+-- A transfer ends where the asked length is reached, at a packet shorter than the packet size (USB 2.0 §5.8.3), or at a
+-- fault. A Nak has no bytes and ends nothing.
 use Rattle.std.specs.Prelude.{ℕ, ◌≡◌, ◌+◌, ◌-◌, ◌<◌, ◌≤◌, ◌^◌, Bool, true, false, not, ◌&&◌, ◌||◌, ◌==◌, nat_le, nat_lt, if◌then◌else◌, min, List, [], ◌∷◌, ◌++◌, length, take, drop, Option, Some, None}
 use Rattle.std.specs.List.{flat_map}
 use Rattle.usb_types.specs.declared.errno.Errno.TheVariants.{EPIPE, EPROTO, EOVERFLOW, EREMOTEIO}
@@ -10,6 +12,7 @@ use Rattle.usb_xfer.specs.declared.device.Reply.TheVariants.{Nak, Stall, Error, 
 use Rattle.usb_xfer.specs.declared.packet.Step.{Step}
 use Rattle.usb_xfer.specs.declared.packet.Step.TheVariants.{More, Waiting, Ended}
 
+-- the bytes that a reply brings
 abbrev pub bytes_of : Reply → List ℕ
 bytes_of Nak = []
 bytes_of Stall = []

@@ -8,7 +8,7 @@ use crate::device::{Device, InReply};
 use usb_machine::{Shape, Transfer};
 use usb_types::{Code, Errno};
 
-/// How far a transfer is after one packet.
+/// How far a transfer is after one packet: it goes on, it waits for the device, or it has ended with a code.
 #[derive(Clone, Copy, Debug, PartialEq, Eq, Drop)]
 pub enum Step {
     More,

@@ -8,9 +8,11 @@ pub loop-step-init : goal.loop-step-init
 loop-step-init g c = ([], nothing, gone_nowhere _ _ c.requires.window)
 
 pub loop-step-preserved : goal.loop-step-preserved
-loop-step-preserved g c = let i = c.loop-step.invariant in let a = c.advance.ensures in
-    (i.0 ++ a.0 ∷ [], one_more i.0 c.loop-step.device a.0 c.advance.new.device i.1 a.1,
-    goes_on c.args.shape.now.max c.args.t.now c.loop-step.t c.advance.new.t i.0 a.0 c.advance.result a.2 i.2 c.in-More.is)
+loop-step-preserved g c = let i = c.loop-step.invariant in let a = c.advance.ensures in (
+  i.0 ++ a.0 ∷ [],
+  one_more i.0 c.loop-step.device a.0 c.advance.new.device i.1 a.1,
+  goes_on c.args.shape.now.max c.args.t.now c.loop-step.t c.advance.new.t i.0 a.0 c.advance.result a.2 i.2 c.in-More.is,
+)
 
 pub loop-step-smaller : goal.loop-step-smaller
 loop-step-smaller g c = let i = c.loop-step.invariant in let a = c.advance.ensures in
@@ -18,6 +20,8 @@ loop-step-smaller g c = let i = c.loop-step.invariant in let a = c.advance.ensur
     (falls c.args.shape.now.max a.0 c.loop-step.t c.requires.size i.2.window (sym a.2.answer ∙ c.in-More.is))
 
 pub returns-in_default : goal.returns-in_default
-returns-in_default g c = let i = c.loop-step.invariant in let a = c.advance.ensures in
-    (i.0 ++ a.0 ∷ [], one_more i.0 c.loop-step.device a.0 c.advance.new.device i.1 a.1,
-    stops_at c.args.shape.now.max c.args.t.now c.loop-step.t c.advance.new.t i.0 a.0 c.advance.result a.2 i.2 c.in_default.not-More)
+returns-in_default g c = let i = c.loop-step.invariant in let a = c.advance.ensures in (
+  i.0 ++ a.0 ∷ [],
+  one_more i.0 c.loop-step.device a.0 c.advance.new.device i.1 a.1,
+  stops_at c.args.shape.now.max c.args.t.now c.loop-step.t c.advance.new.t i.0 a.0 c.advance.result a.2 i.2 c.in_default.not-More,
+)

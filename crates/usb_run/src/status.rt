@@ -1,0 +1,68 @@
+//! How the program ends.
+ghost use Rattle.std.specs.Prelude.{◌≡◌};
+ghost use Rattle.usb_run.specs.Status.{number_of};
+
+use std::fmt;
+use std::fmt::Display;
+
+/// Why a line of a scene is bad.
+#[derive(Clone, Copy, Debug, PartialEq, Eq)]
+pub enum Cause {
+    /// The text is no scene. The place of the fault is not looked for, and line 1 stands for it.
+    Form,
+}
+
+/// How the program ended.
+#[derive(Clone, Copy, Debug, PartialEq, Eq)]
+pub enum Status {
+    /// The input was read to its end, and the whole report was written.
+    Done,
+    /// The source failed.
+    ReadFault,
+    /// The sink failed, behind some part of the report.
+    WriteFault,
+    /// The words of the command line are not in the word grammar.
+    BadWords,
+    /// The input is no scene.
+    BadScene { line: u32, cause: Cause },
+    /// Memory ran out.
+    Memory,
+}
+
+impl Status {
+    /// The number that the process ends with.
+    pub fn number(self) -> u8
+        ensures { result ≡ number_of self }
+    {
+        match self {
+            Status::Done => 0,
+            Status::ReadFault => 1,
+            Status::WriteFault => 2,
+            Status::BadWords => 3,
+            Status::BadScene { .. } => 4,
+            Status::Memory => 6,
+        }
+    }
+}
+
+impl Display for Cause {
+    fn fmt<W: fmt::Write>(&self, f: &mut fmt::Formatter<W>) -> fmt::Result {
+        match *self {
+            Cause::Form => write!(f, "Form"),
+        }
+    }
+}
+
+/// What the program prints on standard error: nothing for Done.
+impl Display for Status {
+    fn fmt<W: fmt::Write>(&self, f: &mut fmt::Formatter<W>) -> fmt::Result {
+        match *self {
+            Status::Done => Ok(()),
+            Status::ReadFault => write!(f, "usbrun: read fault"),
+            Status::WriteFault => write!(f, "usbrun: write fault"),
+            Status::BadWords => write!(f, "usbrun: bad words"),
+            Status::BadScene { line, cause } => write!(f, "usbrun: line {line}: {cause}"),
+            Status::Memory => write!(f, "usbrun: no memory"),
+        }
+    }
+}

@@ -1,0 +1,37 @@
+//! `usbrun`: reads a scene from standard input, runs it, and prints its report.
+#![tactic(auto)]
+
+use std::alloc::AllocError;
+use std::env;
+use std::env::Env;
+use std::process::ExitCode;
+use usb_run::{Status, usbrun};
+use usb_types::{Free, StdSink, StdSource};
+
+#[cfg(test)]
+mod tests;
+
+// The words behind the program's name. Where one is no text there are none, which is no command.
+fn words_of<R: Env + AllocGlobal>(rt: &R) -> Result<Vec<String>, AllocError> {
+    let mut words = Vec::new(rt.alloc());
+    if let Ok(args) = env::args(rt) {
+        for word in args.skip(1) {
+            words.push(word)?;
+        }
+    }
+    Ok(words)
+}
+
+fn main(rt: HostRuntime) -> ExitCode {
+    let alloc = rt.alloc();
+    let mut input = StdSource::new(rt.stdin());
+    let mut out = StdSink::new(rt.stdout());
+    let status = match words_of(&rt) {
+        Ok(words) => usbrun(&rt, alloc, &words, &mut input, &mut out, &Free),
+        Err(_) => Status::Memory,
+    };
+    if status != Status::Done {
+        let _ = eprintln!(rt; "{status}");
+    }
+    ExitCode::from(status.number())
+}
