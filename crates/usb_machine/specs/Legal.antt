@@ -7,7 +7,7 @@ use Rattle.usb_machine.specs.declared.transfer.Transfer.{Transfer}
 use Rattle.usb_machine.specs.declared.entry.Entry.{Entry}
 use Rattle.usb_machine.specs.declared.layout.Shape.{Shape}
 use Rattle.usb_machine.specs.State.{answer_of, is_clear, has_flag}
-use Rattle.usb_machine.specs.Shapes.{shape_fault}
+use Rattle.usb_machine.specs.Shapes.{HasWindow, Accepts}
 use Rattle.usb_machine.specs.History.{Machine, home_of, HasHome, state_of, line_of, pending_of}
 use Rattle.usb_machine.specs.Parts.{part_of, owes, held_of, keeps}
 
@@ -58,16 +58,11 @@ abbrev pub end_of : Event → ℕ
 end_of (Take e) = e
 end_of _ = 0
 
--- an endpoint of this shape takes the transfer
-abbrev pub IsTaken : Option Shape → Transfer → Type 0
-IsTaken None t = ⊥
-IsTaken (Some shape) t = shape_fault shape t ≡ None
-
 -- a Submit carries a transfer that has moved nothing and that its home takes, and a Rest carries any
 abbrev pub Carries : Machine → Event → Option Transfer → Type 0
-Carries g (Submit u n) (Some t) = (t.number ≡ n) × (t.actual ≡ 0) × IsTaken (slice_get g.layout.shapes (home_of g u.0)) t
+Carries g (Submit u n) (Some t) = (t.number ≡ n) × HasWindow t × (t.actual ≡ 0) × Accepts (slice_get g.layout.shapes (home_of g u.0)) t
 Carries g (Submit u n) None = ⊥
-Carries g (Rest u n) (Some t) = t.number ≡ n
+Carries g (Rest u n) (Some t) = (t.number ≡ n) × HasWindow t
 Carries g (Rest u n) None = ⊥
 Carries g _ c = c ≡ None
 

@@ -1,7 +1,8 @@
 -- What a scene prepares: the endpoints of its devices, the home of each URB, the script of each endpoint, and the
 -- machine of its host.
-use Rattle.std.specs.Prelude.{ℕ, ◌+◌, Bool, false, ◌&&◌, ◌==◌, List, [], ◌∷◌, ◌++◌, length, map, position, slice_get, replicate, Option, Some, None}
-use Rattle.usb_machine.specs.declared.entry.TheConstants.{SERVER}
+use Rattle.std.specs.Prelude.{ℕ, ◌+◌, Bool, false, ◌&&◌, ◌==◌, if◌then◌else◌, codes, List, [], ◌∷◌, ◌++◌, length, map, position, slice_get, replicate, Option, Some, None}
+use Rattle.std.specs.Str.{bytes_eq}
+use Rattle.usb_machine.specs.declared.entry.TheConstants.{SERVER, HUB}
 use Rattle.usb_machine.specs.declared.layout.EndKind.TheVariants.{Control}
 use Rattle.usb_machine.specs.declared.layout.Shape.{Shape}
 use Rattle.usb_machine.specs.declared.transfer.Transfer.{Transfer}
@@ -34,14 +35,19 @@ is_at device address shape = (shape.device == device) && (shape.address == addre
 abbrev pub home_at : Scene → SceneUrb → Option ℕ
 home_at s u = position (is_at u.device u.address) (shapes_of s)
 
--- the pass of a thread, and the main pass behind those of all threads
-abbrev pub thread_pass : ℕ → ℕ
-thread_pass i = 2 + i
+-- the thread with this name has the hub's pass
+abbrev pub is_hub : SceneThread → Bool
+is_hub thread = bytes_eq thread.name (codes "hub")
 
-abbrev pub main_pass : Scene → ℕ
-main_pass s = thread_pass (length s.threads)
+abbrev pub pass_by : ℕ → Option SceneThread → ℕ
+pass_by i None = 2 + i
+pass_by i (Some thread) = if is_hub thread then HUB else 2 + i
 
--- the server, the hub, the threads and main have a pass each, and the server's runs the handlers
+-- the pass of thread i: the hub's for the thread `hub`, and else one of its own
+abbrev pub pass_of : Scene → ℕ → ℕ
+pass_of s i = pass_by i (slice_get s.threads i)
+
+-- the passes are the server's, the hub's, one for each thread, and main's. The server's runs the handlers
 abbrev pub machine_of : Scene → Machine
 machine_of s = record { layout = record { homes = map (home_at s) s.urbs; shapes = shapes_of s }; passes = 2 + (length s.threads + 1); bottom = SERVER }
 

@@ -1,7 +1,7 @@
 -- What a history has to do with a scene, in whatever order its entries came.
-use Rattle.std.specs.Prelude.{ℕ, ◌≡◌, ◌<◌, ◌==◌, Bool, true, false, not, if◌then◌else◌, List, [], ◌∷◌, length, map, filter, slice_get, Option, Some, None}
+use Rattle.std.specs.Prelude.{ℕ, ◌≡◌, ◌≢◌, ◌<◌, ◌==◌, Bool, true, false, not, if◌then◌else◌, List, [], ◌∷◌, length, map, filter, slice_get, Option, Some, None}
 use Rattle.std.specs.List.{flat_map, All}
-use Rattle.usb_machine.specs.declared.entry.TheConstants.{SERVER, HUB}
+use Rattle.usb_machine.specs.declared.entry.TheConstants.{SERVER}
 use Rattle.usb_types.specs.declared.errno.Code.{Code}
 use Rattle.usb_machine.specs.declared.event.Event.{Event}
 use Rattle.usb_machine.specs.declared.event.Event.TheVariants.{Submit, Link, Take, Finish, Give, Rest, End}
@@ -9,7 +9,7 @@ use Rattle.usb_machine.specs.declared.event.Answer.{Answer}
 use Rattle.usb_machine.specs.declared.event.Answer.TheVariants.{Nothing, Code as Status, Truth}
 use Rattle.usb_machine.specs.declared.transfer.Transfer.{Transfer}
 use Rattle.usb_machine.specs.declared.entry.Entry.{Entry}
-use Rattle.usb_machine.specs.State.{is_zero}
+use Rattle.usb_machine.specs.State.{is_zero, finishes}
 use Rattle.usb_machine.specs.History.{Episode, episodes_of, home_of}
 use Rattle.usb_machine.specs.Parts.{part_of}
 use Rattle.usb_machine.specs.Legal.{IsLegal}
@@ -24,7 +24,7 @@ use Rattle.usb_run.specs.declared.made.Made.{Made}
 use Rattle.usb_run.specs.declared.made.Told.{Told}
 use Rattle.usb_run.specs.declared.made.Told.TheVariants as told
 use Rattle.usb_run.specs.Script.{stretch}
-use Rattle.usb_run.specs.Prepared.{machine_of, max_of, script_of, fresh, thread_pass, main_pass}
+use Rattle.usb_run.specs.Prepared.{machine_of, max_of, script_of, fresh, pass_of}
 
 abbrev pub entry : ℕ → Event → Answer → Option Transfer → Entry
 entry p e a t = record { pass = p; event = e; answer = a; carried = t }
@@ -38,7 +38,7 @@ entries_of s p line (call.Submit u) told.Nothing = []
 entries_of s p line call.Serve a = []
 
 abbrev pub call_entries : Scene → Made → List Entry
-call_entries s m = entries_of s (thread_pass m.thread) m.call.line m.call.kind m.answer
+call_entries s m = entries_of s (pass_of s m.thread) m.call.line m.call.kind m.answer
 
 -- an episode that is over: its URB, its status, the transfer that was sent, and the replies that moved it
 pub record Round : Type 0 where
@@ -51,13 +51,18 @@ pub record Round : Type 0 where
 abbrev pub moved_in : Scene → Round → Transfer
 moved_in s r = moved (max_of s r.urb) r.sent r.replies
 
--- the server finishes the URB, gives it back, and its handler rests the transfer
+-- the handler rests the transfer
+abbrev pub handler_entries : Scene → Round → List Entry
+handler_entries s r =
+    entry SERVER (Rest record { 0 = r.urb } r.sent.number) Nothing (Some (moved_in s r))
+    ∷ entry SERVER (End record { 0 = r.urb }) Nothing None ∷ []
+
+-- the server finishes the URB and gives it back, and its handler follows
 abbrev pub round_entries : Scene → Round → List Entry
 round_entries s r =
     entry SERVER (Finish record { 0 = r.urb } r.status) (Truth true) None
     ∷ entry SERVER (Give record { 0 = r.urb }) (Status r.status) None
-    ∷ entry SERVER (Rest record { 0 = r.urb } r.sent.number) Nothing (Some (moved_in s r))
-    ∷ entry SERVER (End record { 0 = r.urb }) Nothing None ∷ []
+    ∷ handler_entries s r
 
 abbrev pub episode_of : Round → Episode
 episode_of r = record { urb = r.urb; status = Status r.status; transfer = Some r.sent }
@@ -67,9 +72,23 @@ pub record IsRound (s : Scene) (r : Round) : Type 0 where
   pub state : moved_state (max_of s r.urb) r.sent r.replies ≡ Ended r.status
   pub whole : IsWhole (max_of s r.urb) r.sent r.replies
 
-abbrev pub is_take : Event → Bool
-is_take (Take e) = true
-is_take _ = false
+-- whether an entry belongs to no round: a Take, or a Finish that found a mark
+abbrev pub is_aside : Event → Answer → Bool
+is_aside (Take e) a = true
+is_aside (Finish u c) a = not (finishes a)
+is_aside _ a = false
+
+-- a submit is answered with a code, and a serve with nothing
+abbrev pub IsAnswered : CallKind → Told → Type 0
+IsAnswered (call.Submit u) (told.Code a) = Unit {0}
+IsAnswered (call.Submit u) told.Nothing = ⊥
+IsAnswered call.Serve (told.Code a) = ⊥
+IsAnswered call.Serve told.Nothing = Unit {0}
+
+-- a call of a thread that is there, with an answer of its kind
+pub record IsMade (s : Scene) (m : Made) : Type 0 where
+  pub thread : m.thread < length s.threads
+  pub answered : IsAnswered m.call.kind m.answer
 
 -- the calls that a thread made
 abbrev pub made_by : ℕ → List Made → List Made
@@ -86,15 +105,16 @@ replies_in rounds = flat_map (λ r. r.replies) rounds
 pub record IsRun (s : Scene) (h : List Entry) (made : List Made) (rounds : List Round) : Type 0 where
   -- each entry may come where it stands, and has the machine's answer
   pub legal : IsLegal (machine_of s) h
+  -- each call is one of a thread, and has its answer
+  pub told : All (IsMade s) made
   -- each thread made the calls of its script, each once and in order
   pub calls : (i : ℕ) (thread : SceneThread) → slice_get s.threads i ≡ Some thread → map (λ m. m.call) (made_by i made) ≡ thread.calls
   -- a thread's part of the history is the entries of its calls with their answers
-  pub threads : (i : ℕ) → i < length s.threads → part_of h (thread_pass i) ≡ flat_map (call_entries s) (made_by i made)
-  -- the server takes, and beside this it finishes, gives back and handles one round after another
-  pub server : filter (λ x. not (is_take x.event)) (part_of h SERVER) ≡ flat_map (round_entries s) rounds
-  -- no thread is the hub, and main has nothing to do
-  pub hub : part_of h HUB ≡ []
-  pub main : part_of h (main_pass s) ≡ []
+  pub threads : (i : ℕ) → i < length s.threads → part_of h (pass_of s i) ≡ flat_map (call_entries s) (made_by i made)
+  -- the server takes and finds marks, and beside this it finishes, gives back and handles one round after another
+  pub server : filter (λ x. not (is_aside x.event x.answer)) (part_of h SERVER) ≡ flat_map (round_entries s) rounds
+  -- no other pass has an entry
+  pub others : (p : ℕ) → p ≢ SERVER → ((i : ℕ) → i < length s.threads → p ≢ pass_of s i) → part_of h p ≡ []
   -- each Give ends the episode of its round
   pub gives : episodes_of h ≡ map episode_of rounds
   -- the replies of an endpoint's rounds are the first that its script gives

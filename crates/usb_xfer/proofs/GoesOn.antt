@@ -14,7 +14,8 @@ use Rattle.usb_xfer.specs.declared.device.Reply.{Reply}
 use Rattle.usb_xfer.specs.declared.device.Reply.TheVariants.{Nak, Stall, Error, Packet}
 use Rattle.usb_xfer.specs.declared.packet.Step.{Step}
 use Rattle.usb_xfer.specs.declared.packet.Step.TheVariants.{More, Waiting, Ended}
-use Rattle.usb_xfer.specs.Moved.{moved, moved_state, state_by, ending, ends_with_nak, HasWindow, IsOpen, IsWhole, reply_moves, reply_step, Advances}
+use Rattle.usb_xfer.specs.Moved.{moved, moved_state, state_by, ending, ends_with_nak, IsOpen, IsWhole, reply_moves, reply_step, Advances}
+use Rattle.usb_machine.specs.Shapes.{HasWindow}
 use Rattle.usb_xfer.specs.On.{SoFar, GoneOn, Stops, RunsOn}
 
 open_state : (c : Option Code) (b : Bool) → state_by c b ≡ More → c ≡ None

@@ -13,7 +13,8 @@ use Rattle.usb_xfer.specs.declared.device.Reply.{Reply}
 use Rattle.usb_xfer.specs.declared.device.Reply.TheVariants.{Nak, Stall, Error, Packet}
 use Rattle.usb_xfer.specs.declared.packet.Step.{Step}
 use Rattle.usb_xfer.specs.declared.packet.Step.TheVariants.{More, Waiting, Ended}
-use Rattle.usb_xfer.specs.Moved.{bytes_of, lengths, is_good, stops, end_code, good_bytes, ending, with_bytes, moved, is_nak, ends_with_nak, state_by, moved_state, IsWhole, IsOpen, HasWindow, reply_moves, reply_step, IsLastStep}
+use Rattle.usb_xfer.specs.Moved.{bytes_of, lengths, is_good, stops, end_code, good_bytes, ending, with_bytes, moved, is_nak, ends_with_nak, state_by, moved_state, IsWhole, IsOpen, reply_moves, reply_step, IsLastStep}
+use Rattle.usb_machine.specs.Shapes.{HasWindow}
 
 module _ (max len : ℕ) where
   abbrev taken : List Reply → Reply → List ℕ

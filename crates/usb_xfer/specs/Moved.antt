@@ -7,6 +7,7 @@ use Rattle.usb_types.specs.declared.errno.Errno.TheVariants.{EPIPE, EPROTO, EOVE
 use Rattle.usb_types.specs.declared.errno.Code.{Code}
 use Rattle.usb_types.specs.declared.errno.Code.TheVariants.{Zero, Fault}
 use Rattle.usb_machine.specs.declared.transfer.Transfer.{Transfer}
+use Rattle.usb_machine.specs.Shapes.{HasWindow}
 use Rattle.usb_xfer.specs.declared.device.Reply.{Reply}
 use Rattle.usb_xfer.specs.declared.device.Reply.TheVariants.{Nak, Stall, Error, Packet}
 use Rattle.usb_xfer.specs.declared.packet.Step.{Step}
@@ -88,12 +89,6 @@ IsWhole max t replies = (before : List Reply) (r : Reply) (after : List Reply) �
 -- no reply has ended the transfer
 abbrev pub IsOpen : ℕ → Transfer → List Reply → Type 0
 IsOpen max t replies = ending max t.len t.short_not_ok [] replies ≡ None
-
--- the window lies in the buffer, and the moved bytes in the window
-pub record HasWindow (t : Transfer) : Type 0 where
-  pub window : t.from + t.len ≤ length t.buf
-  pub buffer : length t.buf < 2 ^ 32
-  pub within : t.actual ≤ t.len
 
 -- how one reply moves a transfer, by the table
 abbrev pub reply_moves : ℕ → Reply → Transfer → Transfer

@@ -4,7 +4,8 @@ use Rattle.usb_machine.specs.declared.transfer.Transfer.{Transfer}
 use Rattle.usb_xfer.specs.declared.device.Reply.{Reply}
 use Rattle.usb_xfer.specs.declared.packet.Step.{Step}
 use Rattle.usb_xfer.specs.declared.packet.Step.TheVariants.{More}
-use Rattle.usb_xfer.specs.Moved.{moved, moved_state, HasWindow, IsOpen, IsWhole}
+use Rattle.usb_xfer.specs.Moved.{moved, moved_state, IsOpen, IsWhole}
+use Rattle.usb_machine.specs.Shapes.{HasWindow}
 
 -- the device, asked so often at an address, gave these replies and is this afterwards
 pub data Gave {D : Type 0} (replies : D → ℕ → Reply → D → Type 0) (a : ℕ) (d : D) : List Reply → D → Type 0 where

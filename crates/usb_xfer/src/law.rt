@@ -1,7 +1,8 @@
 ghost use Rattle.std.specs.Prelude.{ℕ, ◌≡◌, ◌++◌, ◌∷◌, [], List};
 ghost use Rattle.usb_machine.specs.declared.transfer.Transfer.{Transfer};
 ghost use Rattle.usb_xfer.specs.declared.device.Reply.{Reply};
-ghost use Rattle.usb_xfer.specs.Moved.{moved, HasWindow, IsOpen, IsLastStep, reply_moves, reply_step};
+ghost use Rattle.usb_xfer.specs.Moved.{moved, IsOpen, IsLastStep, reply_moves, reply_step};
+ghost use Rattle.usb_machine.specs.Shapes.{HasWindow};
 
 /// What a reply more does to a transfer that the replies before it moved is what all these replies do.
 pub fn a_reply_more_is_one_step()

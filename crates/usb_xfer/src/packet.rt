@@ -2,7 +2,8 @@ ghost use Rattle.std.specs.Prelude.{ℕ, ◌≡◌, ◌+◌, ◌≤◌, ◌<◌,
 ghost use Rattle.usb_machine.specs.declared.transfer.Transfer.{Transfer};
 ghost use Rattle.usb_xfer.specs.declared.device.Reply.{Reply};
 ghost use Rattle.usb_xfer.specs.Replies.{Answers, heard_of, room_after};
-ghost use Rattle.usb_xfer.specs.Moved.{moved, HasWindow, IsOpen, IsLastStep, filled, reply_moves, reply_step, Advances};
+ghost use Rattle.usb_xfer.specs.Moved.{moved, IsOpen, IsLastStep, filled, reply_moves, reply_step, Advances};
+ghost use Rattle.usb_machine.specs.Shapes.{HasWindow};
 
 use crate::device::{Device, InReply};
 use usb_machine::{Shape, Transfer};

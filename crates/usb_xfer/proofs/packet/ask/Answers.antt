@@ -7,7 +7,8 @@ use Rattle.usb_machine.specs.declared.transfer.Transfer.{Transfer}
 use Rattle.usb_xfer.specs.declared.device.Reply.{Reply}
 use Rattle.usb_xfer.specs.declared.device.Reply.TheVariants.{Nak, Stall, Error, Packet}
 use Rattle.usb_xfer.specs.Replies.{room_after, heard_of, Answers}
-use Rattle.usb_xfer.specs.Moved.{filled, HasWindow}
+use Rattle.usb_xfer.specs.Moved.{filled}
+use Rattle.usb_machine.specs.Shapes.{HasWindow}
 use Rattle.usb_xfer.proofs.packet.ask.Goals as goal
 
 over_whole : (x b : List ℕ) → length x ≡ length b → take (length b) (x ++ drop (length x) b) ≡ x
