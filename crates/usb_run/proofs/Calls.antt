@@ -90,10 +90,3 @@ placed_there s (m ∷ made) a = All-cons (IsMadeThere s) m made (All-head (IsThe
 -- where all calls were made in line order, each was made by a thread of the scene
 pub made_there : (s : Scene) (made : List Made) → map placed made ≡ calls_of s → All (IsMadeThere s) made
 made_there s made all = placed_there s made (subst (All (IsThere (length s.threads))) (sym all) (calls_there 0 (length s.threads) s.threads (omega arith)))
-
--- no call is one of main
-pub made_by_none : (n : ℕ) (made : List Made) → All (λ (m : Made). m.thread < n) made → made_by n made ≡ []
-made_by_none n [] a = refl
-made_by_none n (m ∷ made) a =
-    let off : m.thread ≡ n → ⊥ = λ e. (let b = All-head (λ (m : Made). m.thread < n) m made a in absurd (omega arith)) in
-    ap (λ b. cond b (m ∷ made_by n made) (made_by n made)) (ne_eqb m.thread n off) ∙ made_by_none n made (All-tail (λ (m : Made). m.thread < n) m made a)

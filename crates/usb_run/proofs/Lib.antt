@@ -6,6 +6,7 @@ pub mod Submits
 pub mod Stretches
 pub mod Passes
 pub mod AtHome
+pub mod SentWindows
 pub mod Holds
 pub mod Calls
 pub mod Lines

@@ -1,6 +1,6 @@
 -- The run in line order is a run.
 use Rattle.std.proofs.Common.{ℕ, ◌≡◌, ◌≢◌, ◌+◌, ◌<◌, Bool, true, false, cond, List, [], ◌∷◌, ◌++◌, length, take, refl, sym, ap, ◌∙◌, subst, arith, append_assoc, append-nil, length-append, zero-add, eq-eqb, ne_eqb}
-use Rattle.std.specs.List.{flat_map, All}
+use Rattle.std.specs.List.{All}
 use Rattle.std.proofs.lemmas.List.Elements.{All-nil, All-cons, All-head, All-tail, All-push}
 use Rattle.std.proofs.lemmas.Grind.{flat_map-append}
 use Rattle.std.proofs.Math.Seq.{take-append_seam}
@@ -22,7 +22,7 @@ use Rattle.usb_run.specs.declared.made.Made.{Made}
 use Rattle.usb_run.specs.declared.made.Told.TheVariants as told
 use Rattle.usb_run.specs.Script.{stretch}
 use Rattle.usb_run.specs.Prepared.{machine_of, script_of}
-use Rattle.usb_run.specs.Run.{Round, call_entries, round_entries, IsRound, replies_in, rounds_at, IsRun}
+use Rattle.usb_run.specs.Run.{Round, round_entries, IsRound, IsMade, replies_in, rounds_at, IsRun}
 use Rattle.usb_run.specs.WellFormed.{IsWellFormed}
 use Rattle.usb_run.specs.Line.{served_end, Far, spent, taken, had_after, GoesTo, IsServed, round_of, given_back, waits, GivesBack, none, one, IsIdle, nothing, waiting, IsLine, start, submit, serve, IsLineRun}
 use Rattle.usb_run.proofs.MayFollow.{IsReady}
@@ -31,8 +31,9 @@ use Rattle.usb_run.proofs.Rounds.{round_state, round_other}
 use Rattle.usb_run.proofs.Submits.{submitted, submit_state, submit_other}
 use Rattle.usb_run.proofs.Stretches.{stretch-append, length-stretch}
 use Rattle.usb_run.proofs.AtHome.{first_at_home}
+use Rattle.usb_run.proofs.SentWindows.{sent_window}
 use Rattle.usb_run.proofs.Holds.{Holds, takes_hold, round_holds, submit_holds, serve_holds}
-use Rattle.usb_run.proofs.Calls.{IsMadeThere, made_there, calls_made, made_by_none}
+use Rattle.usb_run.proofs.Calls.{IsMadeThere, made_there, calls_made}
 
 -- no mark stands
 abbrev pub IsCalm : List Entry → Type 0
@@ -48,6 +49,7 @@ pub record Runs (s : Scene) (f : Far) : Type 0 where
   pub tiles : replies_in f.rounds ++ f.so_far ≡ stretch (script_of s served_end) 0 (spent f)
   pub moves : All (IsRound s) f.rounds
   pub homes : All (IsServedRound s) f.rounds
+  pub told : All (IsMade s) f.made
 
 -- a serve and its turns make no calls
 pub gives_made : (s : Scene) (f m : Far) → GivesBack s f m → m.made ≡ f.made
@@ -90,6 +92,7 @@ module _ (s : Scene) where
     tiles = old.tiles;
     moves = old.moves;
     homes = old.homes;
+    told = old.told;
   }
 
   -- the replies so far with the next n
@@ -100,7 +103,7 @@ module _ (s : Scene) where
   after_wait : (f : Far) (n : ℕ) → Runs s f → Runs s (waits s f n)
   after_wait f n old =
       let long : spent f + n ≡ spent (waits s f n) = let a = length-append f.so_far (stretch script (spent f) n) in let b = length-stretch script (spent f) n in omega arith in
-      record { holds = old.holds; calm = old.calm; tiles = longer_tiles f n old.tiles ∙ ap (stretch script 0) long; moves = old.moves; homes = old.homes }
+      record { holds = old.holds; calm = old.calm; tiles = longer_tiles f n old.tiles ∙ ap (stretch script 0) long; moves = old.moves; homes = old.homes; told = old.told }
 
   round_calm : (h : List Entry) (r : Round) → IsCalm h → IsCalm (h ++ round_entries s r)
   round_calm h r calm v = dite (ℕ_discrete v r.urb)
@@ -111,7 +114,7 @@ module _ (s : Scene) where
   after_round f u t n code at goes old =
       let r = round_of s f u t n code in
       let home = first_at_home (machine_of s) served_end f.history u at.others old.holds.legal at.first in
-      let ready : IsReady s f.history r = record { home = home; others = at.others; first = at.first; mark = old.calm u } in
+      let ready : IsReady s f.history r = record { home = home; others = at.others; first = at.first; mark = old.calm u; window = sent_window (machine_of s) u f.history t old.holds.legal at.transfer } in
       let all : replies_in (f.rounds ++ r ∷ []) ≡ replies_in f.rounds ++ had_after s f n
       = flat_map-append (λ (r : Round). r.replies) f.rounds (r ∷ []) ∙ ap (λ l. replies_in f.rounds ++ l) (append-nil (had_after s f n)) in
       let is = all ∙ longer_tiles f n old.tiles in
@@ -122,6 +125,7 @@ module _ (s : Scene) where
         tiles = append-nil (replies_in (f.rounds ++ r ∷ [])) ∙ (is ∙ ap (stretch script 0) long);
         moves = All-push (IsRound s) f.rounds r old.moves record { state = goes.state; whole = goes.whole };
         homes = All-push (IsServedRound s) f.rounds r old.homes home;
+        told = old.told;
       }
 
   submit_calm : (h : List Entry) (thread line u : ℕ) (c : Code) → IsCalm h → IsCalm (h ++ submitted s h thread line u c)
@@ -144,11 +148,12 @@ module _ (s : Scene) where
   -- a run in line order so far has all of a run but the calls that are not made yet
   pub runs : IsWellFormed s → (f : Far) → IsLine s f → All (IsMadeThere s) f.made → Runs s f
   runs good _ start there = record {
-    holds = record { legal = empty; threads = λ i. refl; server = refl; hub = refl; gives = refl };
+    holds = record { legal = empty; threads = λ i l. refl; server = refl; others = λ p off none. refl; gives = refl };
     calm = λ v. refl;
     tiles = refl;
     moves = All-nil (IsRound s);
     homes = All-nil (IsServedRound s);
+    told = All-nil (IsMade s);
   }
   runs good _ (submit f thread l u line near) there =
       let m : Made = record { thread = thread; call = record { line = l; kind = call.Submit u }; answer = told.Code (refusal (state_of f.history u)) } in
@@ -160,18 +165,21 @@ module _ (s : Scene) where
         tiles = old.tiles;
         moves = old.moves;
         homes = old.homes;
+        told = All-push (IsMade s) f.made m old.told record { thread = here; answered = tt };
       }
   runs good _ (serve f m e thread l line gave rests) there =
       let c : Made = record { thread = thread; call = record { line = l; kind = call.Serve }; answer = told.Nothing } in
       let made = idle_made s m e rests ∙ gives_made s f m gave in
+      let here : thread < length s.threads = All-last (IsMadeThere s) e.made c there in
       let before = subst (All (IsMadeThere s)) made (All-front (IsMadeThere s) e.made (c ∷ []) there) in
       let old = idle m e rests (gives_back f m gave (runs good f line before)) in
       record {
-        holds = serve_holds s e.history c e.made e.rounds refl old.holds;
+        holds = serve_holds s good e.history c e.made e.rounds here refl old.holds;
         calm = old.calm;
         tiles = old.tiles;
         moves = old.moves;
         homes = old.homes;
+        told = All-push (IsMade s) e.made c old.told record { thread = here; answered = tt };
       }
 
   -- the replies of the rounds are the first of the script
@@ -198,10 +206,10 @@ module _ (s : Scene) where
       record {
         legal = h.legal;
         calls = calls_made s f.made line.all;
-        threads = λ i l. h.threads i;
+        told = r.told;
+        threads = h.threads;
         server = h.server;
-        hub = h.hub;
-        main = h.threads (length s.threads) ∙ ap (flat_map (call_entries s)) (made_by_none (length s.threads) f.made there);
+        others = h.others;
         gives = h.gives;
         replies = replies_at f r;
         moves = r.moves;

@@ -12,14 +12,17 @@ use Rattle.usb_machine.specs.declared.entry.Entry.{Entry}
 use Rattle.usb_machine.specs.State.{refusal, is_clear, status_of, first_of, after}
 use Rattle.usb_machine.specs.History.{home_of, state_of, after_entry, line_of, pending_of}
 use Rattle.usb_machine.specs.Parts.{part_of, owes}
+use Rattle.usb_machine.specs.Shapes.{HasWindow}
 use Rattle.usb_machine.specs.Legal.{IsFirst, times, Follows}
 use Rattle.usb_machine.proofs.Steps.{state_of-snoc, pending_of-snoc, owes_own}
+use Rattle.usb_xfer.proofs.Windows.{moved_window}
 use Rattle.usb_run.specs.declared.scene.Scene.{Scene}
-use Rattle.usb_run.specs.Prepared.{thread_pass, machine_of, fresh}
+use Rattle.usb_run.specs.Prepared.{pass_of, machine_of, max_of, fresh}
 use Rattle.usb_run.specs.Run.{Round, moved_in, entry}
 use Rattle.usb_run.specs.WellFormed.{IsWellFormed}
 use Rattle.usb_run.specs.Line.{served_end}
-use Rattle.usb_run.proofs.Homes.{has_home, home_takes}
+use Rattle.usb_run.proofs.Homes.{has_home, home_takes, fresh_window}
+use Rattle.usb_run.proofs.Passes.{is_pass}
 
 -- an URB first in the list stands in it
 once : (u : ℕ) (us others : List ℕ) → us ≡ u ∷ others → 0 < times u us
@@ -59,27 +62,27 @@ module _ (s : Scene) (h : List Entry) where
   }
 
   -- while its handler runs, the transfer rests with the URB
-  pub rest_follows : (u : ℕ) (t : Transfer) (number : ℕ) → t.number ≡ number → 0 < (state_of h u).handlers
+  pub rest_follows : (u : ℕ) (t : Transfer) (number : ℕ) → t.number ≡ number → HasWindow t → 0 < (state_of h u).handlers
       → Follows (machine_of s) h (entry SERVER (Rest record { 0 = u } number) Nothing (Some t))
-  rest_follows u t number e run = record { pass = omega arith; may = (refl, run); answers = refl; carries = e }
+  rest_follows u t number e window run = record { pass = omega arith; may = (refl, run); answers = refl; carries = (e, window) }
 
   pub end_follows : (u : ℕ) → 0 < (state_of h u).handlers → Follows (machine_of s) h (entry SERVER (End record { 0 = u }) Nothing None)
   end_follows u run = record { pass = omega arith; may = (refl, run); answers = refl; carries = refl }
 
   -- a thread's submit of an URB of the scene is answered by the gate
   pub submit_follows : IsWellFormed s → (thread u line : ℕ) → thread < length s.threads → u < length s.urbs
-      → Follows (machine_of s) h (entry (thread_pass thread) (Submit record { 0 = u } line) (Status (refusal (state_of h u))) (Some (fresh s line u)))
+      → Follows (machine_of s) h (entry (pass_of s thread) (Submit record { 0 = u } line) (Status (refusal (state_of h u))) (Some (fresh s line u)))
   submit_follows good thread u line there near = record {
-    pass = omega arith;
+    pass = is_pass s thread there;
     may = has_home s good u near;
     answers = refl;
-    carries = (refl, refl, home_takes s good u near line);
+    carries = (refl, fresh_window s good u near line, refl, home_takes s good u near line);
   }
 
   -- a thread links the URB whose Link it owes
-  pub link_follows : (thread u : ℕ) → thread < length s.threads → owes (part_of h (thread_pass thread)) u ≡ true
-      → Follows (machine_of s) h (entry (thread_pass thread) (Link record { 0 = u }) Nothing None)
-  link_follows thread u there owed = record { pass = omega arith; may = owed; answers = refl; carries = refl }
+  pub link_follows : (thread u : ℕ) → thread < length s.threads → owes (part_of h (pass_of s thread)) u ≡ true
+      → Follows (machine_of s) h (entry (pass_of s thread) (Link record { 0 = u }) Nothing None)
+  link_follows thread u there owed = record { pass = is_pass s thread there; may = owed; answers = refl; carries = refl }
 
 -- an accepted submit owes its Link
 pub submit_owes : (h : List Entry) (p u line : ℕ) (t : Option Transfer) → owes (part_of (h ++ entry p (Submit record { 0 = u } line) (Status Zero) t ∷ []) p) u ≡ true
@@ -143,6 +146,7 @@ module _ (s : Scene) (h : List Entry) (r : Round) where
     pub others : List ℕ
     pub first : pending_of (machine_of s) h served_end ≡ r.urb ∷ others
     pub mark : (state_of h r.urb).mark ≡ Clear
+    pub window : HasWindow r.sent
 
   module _ (ready : IsReady) where
     pub first_follows : Follows (machine_of s) h finish
@@ -155,7 +159,7 @@ module _ (s : Scene) (h : List Entry) (r : Round) where
     given_runs = subst (λ (t : UrbState). 0 < t.handlers) (sym given_state) (omega arith)
 
     pub third_follows : Follows (machine_of s) given rest
-    third_follows = rest_follows s given r.urb (moved_in s r) r.sent.number refl given_runs
+    third_follows = rest_follows s given r.urb (moved_in s r) r.sent.number refl (moved_window (max_of s r.urb) r.sent r.replies ready.window) given_runs
 
     pub fourth_follows : Follows (machine_of s) rested end
     fourth_follows = end_follows s rested r.urb (subst (λ (t : UrbState). 0 < t.handlers) (sym rested_state) given_runs)

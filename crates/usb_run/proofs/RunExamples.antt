@@ -24,7 +24,7 @@ use Rattle.usb_run.specs.declared.scene.Call.{Call}
 use Rattle.usb_run.specs.declared.scene.CallKind.TheVariants as call
 use Rattle.usb_run.specs.declared.made.Made.{Made}
 use Rattle.usb_run.specs.declared.made.Told.TheVariants as told
-use Rattle.usb_run.specs.Prepared.{script_of, thread_pass}
+use Rattle.usb_run.specs.Prepared.{script_of, pass_of}
 use Rattle.usb_run.specs.Script.{stretch}
 use Rattle.usb_machine.specs.Parts.{part_of}
 use Rattle.usb_run.specs.Run.{Round, call_entries, made_by, rounds_at, IsRun, IsRound, replies_in}
@@ -138,8 +138,8 @@ run = record {
   calls = λ i thread at. own_calls i thread at;
   threads = λ i l. own_part i l;
   server = refl;
-  hub = refl;
-  main = refl;
+  others = (line_is_run one_packet whole well_formed line_run).others;
+  told = (line_is_run one_packet whole well_formed line_run).told;
   gives = refl;
   replies = λ e. own_replies e;
   moves = All-cons (IsRound one_packet) round [] record { state = refl; whole = whole_one 8 sent short } (All-nil (IsRound one_packet));
@@ -149,7 +149,7 @@ run = record {
     own_calls zero thread at = let same : record { name = 116 ∷ []; calls = submit_on 5 ∷ serve_on 6 ∷ [] } ≡ thread = cc in ap (λ (t : SceneThread). t.calls) same
     own_calls (suc i) thread at = cc
 
-    own_part : (i : ℕ) → i < 1 → part_of history (thread_pass i) ≡ flat_map (call_entries one_packet) (made_by i made)
+    own_part : (i : ℕ) → i < 1 → part_of history (pass_of one_packet i) ≡ flat_map (call_entries one_packet) (made_by i made)
     own_part zero l = refl
     own_part (suc i) l = absurd (omega arith)
 

@@ -13,7 +13,7 @@ use Rattle.usb_machine.specs.Legal.{IsLegal, longer}
 use Rattle.usb_run.specs.declared.scene.Scene.{Scene}
 use Rattle.usb_run.specs.declared.scene.CallKind.TheVariants as call
 use Rattle.usb_run.specs.declared.made.Told.TheVariants as told
-use Rattle.usb_run.specs.Prepared.{thread_pass, machine_of, fresh}
+use Rattle.usb_run.specs.Prepared.{pass_of, machine_of, fresh}
 use Rattle.usb_run.specs.Run.{entry, entries_of}
 use Rattle.usb_run.specs.WellFormed.{IsWellFormed}
 use Rattle.usb_run.specs.Line.{served_end}
@@ -21,14 +21,14 @@ use Rattle.usb_run.proofs.MayFollow.{submit_follows, submit_owes, link_follows}
 
 module _ (s : Scene) (h : List Entry) (thread line u : ℕ) where
   abbrev pub submit : Code → Entry
-  submit c = entry (thread_pass thread) (Submit record { 0 = u } line) (Status c) (Some (fresh s line u))
+  submit c = entry (pass_of s thread) (Submit record { 0 = u } line) (Status c) (Some (fresh s line u))
 
   abbrev pub link : Entry
-  link = entry (thread_pass thread) (Link record { 0 = u }) Nothing None
+  link = entry (pass_of s thread) (Link record { 0 = u }) Nothing None
 
   -- the entries of the call where it is answered so
   abbrev pub submitted : Code → List Entry
-  submitted c = entries_of s (thread_pass thread) line (call.Submit u) (told.Code c)
+  submitted c = entries_of s (pass_of s thread) line (call.Submit u) (told.Code c)
 
   pub submit_legal : IsWellFormed s → thread < length s.threads → u < length s.urbs → IsLegal (machine_of s) h
       → IsLegal (machine_of s) (h ++ submitted (refusal (state_of h u)))
@@ -37,7 +37,7 @@ module _ (s : Scene) (h : List Entry) (thread line u : ℕ) where
       go : (c : Code) → IsLegal (machine_of s) (h ++ submit c ∷ []) → IsLegal (machine_of s) (h ++ submitted c)
       go (Fault x) one = one
       go Zero one = subst (IsLegal (machine_of s)) (append_assoc h (submit Zero ∷ []) (link ∷ []))
-          (longer (h ++ submit Zero ∷ []) link one (link_follows s (h ++ submit Zero ∷ []) thread u there (submit_owes h (thread_pass thread) u line (Some (fresh s line u)))))
+          (longer (h ++ submit Zero ∷ []) link one (link_follows s (h ++ submit Zero ∷ []) thread u there (submit_owes h (pass_of s thread) u line (Some (fresh s line u)))))
 
   -- where it is accepted, the URB is queued
   pub submit_state : (c : Code) → state_of (h ++ submitted c) u ≡ cond (is_zero c) (record (state_of h u) { queued = true; mark = Clear }) (state_of h u)
