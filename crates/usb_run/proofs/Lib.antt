@@ -1,3 +1,17 @@
+pub mod Homes
+pub mod MayFollow
+pub mod Takes
+pub mod Rounds
+pub mod Submits
+pub mod Stretches
+pub mod Passes
+pub mod AtHome
+pub mod SentWindows
+pub mod Holds
+pub mod Calls
+pub mod Lines
+pub mod Alone
+pub mod RunExamples
 pub mod ThreadTexts
 pub mod Scenes
 pub mod Formed

@@ -1,11 +1,11 @@
 -- What holds of every scene that is read, beyond the text: numbers are those of things that are there, sizes and
 -- counts are within their limits.
-use Rattle.std.specs.Prelude.{ℕ, ◌≡◌, ◌<◌, ◌≤◌, ◌^◌, List, length, slice_get, Option, Some, None}
+use Rattle.std.specs.Prelude.{◌≡◌, ◌<◌, ◌≤◌, ◌^◌, length, Some}
 use Rattle.std.specs.List.{All}
 use Rattle.usb_machine.specs.declared.layout.EndKind.TheVariants.{Bulk}
 use Rattle.usb_machine.specs.declared.layout.Shape.{Shape}
 use Rattle.usb_xfer.specs.declared.device.Reply.{Reply}
-use Rattle.usb_xfer.specs.declared.device.Reply.TheVariants.{Nak, Stall, Error, Packet}
+use Rattle.usb_xfer.specs.declared.device.Reply.TheVariants.{Packet}
 use Rattle.usb_run.specs.declared.scene.Scene.{Scene}
 use Rattle.usb_run.specs.declared.scene.SceneDevice.{SceneDevice}
 use Rattle.usb_run.specs.declared.scene.SceneUrb.{SceneUrb}

@@ -4,6 +4,7 @@
 mod command;
 mod draft;
 mod input;
+mod laws;
 mod made;
 mod output;
 mod read;
@@ -12,3 +13,5 @@ mod rules;
 mod scene;
 mod statement;
 mod status;
+
+pub use laws::{a_run_in_line_order_is_a_run, a_scene_has_one_run_in_line_order};
