@@ -12,9 +12,9 @@ use Rattle.usb_machine.specs.State.{after, unlinks, finishes}
 use Rattle.usb_machine.specs.History.{Machine, state_of, is_of, or_zero, home_of, HasHome, line_of, pending_of}
 use Rattle.usb_machine.specs.Parts.{part_of, owes}
 use Rattle.usb_machine.specs.Legal.{times, May, IsLegal, empty, longer}
-use Rattle.usb_machine.specs.Plain.{is_at, homed_at}
+use Rattle.usb_machine.specs.Queues.{is_at, homed_at}
 use Rattle.usb_machine.proofs.Steps.{state_of-snoc}
-use Rattle.usb_machine.proofs.Totals.{total, total_one, total_less, part_of_total}
+use Rattle.usb_machine.proofs.Totals.{total, total_one, total_less, total_least, part_of_total}
 use Rattle.usb_machine.proofs.Places.{Placed, placed, bit}
 
 same_queue : (b : Bool) (s now : UrbState) → now.queued ≡ s.queued → (cond b now s).queued ≡ true → s.queued ≡ true
@@ -56,10 +56,6 @@ length_total n (x ∷ xs) far =
     let a = length_total n xs (λ v l. let z = far v l in omega arith) in let here = ap bit (eq-eqb x x refl) in
     let low : x < n = dite (dec_lt x n) (λ l. l) (λ off. let z = far x (omega arith) in absurd (omega arith)) in
     let sums = total_one n x (λ v. times v xs) (λ v. times v (x ∷ xs)) low (λ v ne. let b = ap bit (ne_eqb x v (λ i. ne (sym i))) in omega arith) in omega arith
-
-total_least : (n : ℕ) (f : ℕ → ℕ) → ((q : ℕ) → f q ≤ 1) → total n f ≤ n
-total_least zero f b = omega arith
-total_least (suc n) f b = let a = total_least n f b in let c = b n in omega arith
 
 bit_most : (b : Bool) → bit b ≤ 1
 bit_most true = omega arith

@@ -21,8 +21,8 @@ use Rattle.usb_machine.specs.State.{after, answer_of, first_of, opening}
 use Rattle.usb_machine.specs.History.{Machine, or_zero, home_of, HasHome, is_of, state_of, line_of, line_after, pending_of, pending_after, without_first, without, taken}
 use Rattle.usb_machine.specs.Parts.{part_of, Held, held_of, held_after}
 use Rattle.usb_machine.specs.Legal.{urb_of, end_of, IsLegal, longer}
-use Rattle.usb_machine.specs.Queues.{linked, moved, given}
-use Rattle.usb_machine.specs.Plain.{IsOfUrb, CanCount, HasRoom, IsNext, Stands, homed_at, queues_of, urbs_of, ends_of}
+use Rattle.usb_machine.specs.Queues.{homed_at, linked, moved, given}
+use Rattle.usb_machine.specs.Plain.{IsOfUrb, CanCount, HasRoom, IsNext, Stands, queues_of, urbs_of, ends_of}
 use Rattle.usb_machine.proofs.Steps.{state_of-snoc, line_of-snoc, pending_of-snoc, held_own, held_other}
 use Rattle.usb_machine.proofs.Totals.{total_at_most}
 use Rattle.usb_machine.proofs.Held.{rejects_are_held}

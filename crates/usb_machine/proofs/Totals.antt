@@ -35,6 +35,10 @@ total_less n p f k below l less = go n l
         (λ (is : m ≡ p). let a = total_below m in let b : k p ≡ k m = ap k (sym is) in let c : f p ≡ f m = ap f (sym is) in omega arith)
         (λ off. let a = go m (omega arith) in let b = below m in omega arith)
 
+pub total_least : (n : ℕ) (f : ℕ → ℕ) → ((q : ℕ) → f q ≤ 1) → total n f ≤ n
+total_least zero f b = omega arith
+total_least (suc n) f b = let a = total_least n f b in let c = b n in omega arith
+
 pub total_at_most : (n m : ℕ) (f : ℕ → ℕ) → ((q : ℕ) → f q ≤ 255) → n ≤ m → total n f ≤ 255 * m
 total_at_most zero m f b l = omega arith
 total_at_most (suc n) m f b l = let a = total_at_most n (m - 1) f b (omega arith) in let c = b n in omega arith

@@ -1,5 +1,5 @@
 -- The machine as an object: the history that it stands for, and the events that it may be given.
-use Rattle.std.specs.Prelude.{◌≡◌, ℕ, ◌+◌, ◌^◌, ◌<◌, ◌≤◌, Bool, false, ◌==◌, List, length, slice_get, slice_index_or, Option, Some, None, All}
+use Rattle.std.specs.Prelude.{◌≡◌, ℕ, ◌+◌, ◌^◌, ◌<◌, ◌≤◌, List, length, slice_get, Option, Some, All}
 use Rattle.circular_buffer.specs.Buffer.{buffer}
 use Rattle.usb_machine.specs.declared.event.Event.{Event}
 use Rattle.usb_machine.specs.declared.event.Event.TheVariants.{Take, Give, Reject}
@@ -12,12 +12,7 @@ use Rattle.usb_machine.specs.declared.queues.Queues.{Queues}
 use Rattle.usb_machine.specs.History.{Machine, state_of, line_of, pending_of}
 use Rattle.usb_machine.specs.Parts.{part_of, held_of}
 use Rattle.usb_machine.specs.Legal.{May, urb_of, Carries, IsLegal}
-use Rattle.usb_machine.specs.Laws.{total, bit}
-
--- the home is below n, where there is one
-abbrev pub HomeIsBelow : ℕ → Option ℕ → Type 0
-HomeIsBelow n None = Unit {0}
-HomeIsBelow n (Some e) = e < n
+use Rattle.usb_machine.specs.Queues.{HomeIsBelow, homed_at}
 
 -- fewer than 2^31 URBs and endpoints, and each home is one of the endpoints
 pub record IsLayout (layout : Layout) : Type 0 where
@@ -60,14 +55,6 @@ pub record IsNext (g : Machine) (h : List Entry) (p : ℕ) (event : Event) (carr
   pub may : May g h p event
   pub room : HasRoom h p event
   pub carries : Carries g event carried
-
-abbrev pub is_at : ℕ → Option ℕ → Bool
-is_at e None = false
-is_at e (Some d) = d == e
-
--- how many URBs have this endpoint as their home
-abbrev pub homed_at : List (Option ℕ) → ℕ → ℕ
-homed_at homes e = total (length homes) (λ u. bit (is_at e (slice_index_or homes u None)))
 
 -- an endpoint's two lists after a history, in room for all URBs whose home it is
 abbrev pub queues_of : Machine → List Entry → ℕ → Queues

@@ -1,11 +1,29 @@
 //! What an event answers by the state of its URB, and what it changes there.
 ghost use Rattle.std.specs.Prelude.{◌≡◌, []};
-ghost use Rattle.usb_machine.specs.State.{after, answer_of, refusal, unlinking, status_of, with_flag as flags_with};
+ghost use Rattle.usb_machine.specs.State.{opening, after, answer_of, refusal, unlinking, status_of, with_flag as flags_with};
 ghost use Rattle.usb_machine.specs.Plain.{IsOfUrb, CanCount};
 
 use crate::event::{Answer, Event};
 use crate::state::{Flags, Mark, UrbState};
 use usb_types::{Code, Errno, Flag};
+
+/// The state of each URB at first.
+pub(crate) fn at_first() -> UrbState
+    ensures { result ≡ opening }
+{
+    UrbState {
+        queued: false,
+        mark: Mark::Clear,
+        rejects: 0,
+        flags: Flags {
+            gone: false,
+            off: false,
+            down: false,
+        },
+        handlers: 0,
+        rest: None,
+    }
+}
 
 fn refused(state: &UrbState) -> Code
     ensures { result ≡ refusal state.now }

@@ -1,10 +1,13 @@
-ghost use Rattle.std.specs.Prelude.{◌≡◌, ℕ, ◌<◌, ◌≤◌, ◌+◌, ◌^◌, ◌++◌, ◌∷◌, [], List, Option, Some, None, length, All, IfOk, slice_index_or, slice_get, slice_set};
+ghost use Rattle.std.specs.Prelude.{◌≡◌, ℕ, ◌<◌, ◌≤◌, ◌+◌, ◌^◌, ◌++◌, ◌∷◌, [], List, Option, Some, None, length, All, IfOk, replicate, slice_index_or, slice_get, slice_set};
 
-use crate::change::{answered, changed};
+use crate::change::{answered, at_first, changed};
+use crate::entry::SERVER;
 use crate::event::{Answer, Event};
-use crate::queues::Queues;
+use crate::layout::Layout;
+use crate::queues::{Queues, empty_queues};
 use crate::state::UrbState;
-use usb_types::UrbId;
+use std::alloc::{AllocError, Global};
+use usb_types::Memory;
 
 /// The machine as an object, for one caller at a time.
 #[derive(Drop)]
@@ -23,8 +26,39 @@ impl Plain {
     ghost use Rattle.usb_machine.specs.State.{answer_of, after, opening};
     ghost use Rattle.usb_machine.specs.History.{Machine, state_of, line_of};
     ghost use Rattle.usb_machine.specs.Legal.{urb_of, end_of};
-    ghost use Rattle.usb_machine.specs.Queues.{linked, given};
-    ghost use Rattle.usb_machine.specs.Plain.{IsOfUrb, CanCount, IsInside, IsNext, Stands, urbs_of, ends_of};
+    ghost use Rattle.usb_machine.specs.Queues.{HomeIsBelow, homed_at, no_urbs, linked, given};
+    ghost use Rattle.usb_machine.specs.Plain.{IsLayout, IsOfUrb, CanCount, IsInside, IsNext, Stands, urbs_of, ends_of};
+
+    /// The machine at first: nothing was made, and nothing stands. Passes 0 and 1 are the server's and the hub's, and
+    /// `passes` more follow from 2.
+    pub fn new(alloc: Global, layout: &Layout, passes: u32) -> Result<Plain, Memory>
+        requires passes { (0 < passes) × (passes ≤ 64) }
+        requires layout { IsLayout layout.now }
+        ensures opening { IfOk result (λ plain. Stands plain record { layout = layout.now; passes = passes + 2; bottom = SERVER } []) }
+        ensures counts { IfOk result (λ plain. (urbs_of plain ≡ length layout.now.homes) × (ends_of plain ≡ length layout.now.shapes)) }
+    {
+        let _ = passes;
+        match Plain::opened(alloc, layout.homes.items(), layout.shapes.items().len()) {
+            Ok(plain) => Ok(plain),
+            Err(_) => Err(Memory),
+        }
+    }
+
+    fn opened(alloc: Global, homes: &[Option<u32>], ends: usize) -> Result<Plain, AllocError>
+        requires homes { All (HomeIsBelow ends) homes.now }
+        requires count { length homes.now < 2 ^ 31 }
+        ensures homes { IfOk result (λ plain. plain.homes.items ≡ homes.now) }
+        ensures states { IfOk result (λ plain. plain.states.items ≡ replicate (length homes.now) opening) }
+        ensures count { IfOk result (λ plain. ends_of plain ≡ ends) }
+        ensures ends { IfOk result (λ plain. (e : ℕ) → e < ends → slice_get plain.ends.items e ≡ Some (no_urbs (homed_at homes.now e))) }
+    {
+        let ends = empty_queues(alloc, homes, ends)?;
+        Ok(Plain {
+            homes: homes.to_vec(alloc)?,
+            states: vec![in alloc; at_first(); homes.len()]?,
+            ends,
+        })
+    }
 
     /// Makes an event.
     pub fn step(&mut self, pass: u32, event: Event) -> Answer

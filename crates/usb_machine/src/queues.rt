@@ -1,9 +1,10 @@
-ghost use Rattle.std.specs.Prelude.{◌≡◌, ◌<◌, length};
+ghost use Rattle.std.specs.Prelude.{◌≡◌, ℕ, ◌<◌, ◌^◌, length, map, All, IfOk, slice_get, Some};
 ghost use Rattle.usb_machine.specs.State.{first_of};
-ghost use Rattle.usb_machine.specs.Queues.{linked, moved, given};
+ghost use Rattle.usb_machine.specs.Queues.{HomeIsBelow, homed_at, no_urbs, linked, moved, given};
 
 use crate::event::Answer;
 use circular_buffer::HeapCircularBuffer;
+use std::alloc::{AllocError, Global};
 use usb_types::UrbId;
 
 /// An endpoint's line and its pending URBs. Each has room for as many URBs as have the endpoint as their home.
@@ -14,6 +15,15 @@ pub(crate) struct Queues {
 }
 
 impl Queues {
+    pub(crate) fn new(alloc: Global, room: usize) -> Result<Queues, AllocError>
+        ensures { IfOk result (λ q. q ≡ no_urbs room) }
+    {
+        Ok(Queues {
+            line: HeapCircularBuffer::with_capacity(alloc, room)?,
+            pending: HeapCircularBuffer::with_capacity(alloc, room)?,
+        })
+    }
+
     /// Puts the URB last in the line.
     pub(crate) fn link(&mut self, urb: u32)
         ensures { length self.old.line.items < self.old.line.capacity → self.new ≡ linked urb self.old }
@@ -47,4 +57,45 @@ impl Queues {
             }
         }
     }
+}
+
+/// How many URBs have each endpoint as their home.
+fn rooms(alloc: Global, homes: &[Option<u32>], ends: usize) -> Result<Vec<usize>, AllocError>
+    requires homes { All (HomeIsBelow ends) homes.now }
+    requires count { length homes.now < 2 ^ 31 }
+    ensures ends { IfOk result (λ v. length v.items ≡ ends) }
+    ensures rooms { IfOk result (λ v. (e : ℕ) → e < ends → slice_get v.items e ≡ Some (homed_at homes.now e)) }
+{
+    let mut rooms = vec![in alloc; 0usize; ends]?;
+    for home in homes {
+        if let Some(ep) = home {
+            rooms[*ep as usize] += 1;
+        }
+    }
+    Ok(rooms)
+}
+
+fn all_empty(alloc: Global, rooms: &[usize]) -> Result<Vec<Queues>, AllocError>
+    ensures { IfOk result (λ v. v.items ≡ map no_urbs rooms.now) }
+{
+    let mut ends = Vec::with_capacity(alloc, rooms.len())?;
+    for room in rooms {
+        ends.push(Queues::new(alloc, *room)?)?;
+    }
+    Ok(ends)
+}
+
+/// The empty lists of each endpoint, with their room.
+pub(crate) fn empty_queues(
+    alloc: Global,
+    homes: &[Option<u32>],
+    ends: usize,
+) -> Result<Vec<Queues>, AllocError>
+    requires homes { All (HomeIsBelow ends) homes.now }
+    requires count { length homes.now < 2 ^ 31 }
+    ensures ends { IfOk result (λ v. length v.items ≡ ends) }
+    ensures rooms { IfOk result (λ v. (e : ℕ) → e < ends → slice_get v.items e ≡ Some (no_urbs (homed_at homes.now e))) }
+{
+    let rooms = rooms(alloc, homes, ends)?;
+    all_empty(alloc, &rooms)
 }

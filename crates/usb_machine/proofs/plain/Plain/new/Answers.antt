@@ -1,0 +1,23 @@
+use Rattle.std.proofs.Common.{◌≡◌, ◌<◌, length, replicate, ap, ◌∙◌, arith, Some}
+use Rattle.std.specs.Prelude.{slice_get}
+use Rattle.std.proofs.lemmas.Option.{slice_get-get_or}
+use Rattle.std.proofs.lemmas.List.{get_or-replicate, length-replicate}
+use Rattle.usb_machine.specs.State.{opening}
+use Rattle.usb_machine.specs.Legal.{empty}
+use Rattle.usb_machine.specs.Queues.{no_urbs, homed_at}
+use Rattle.usb_machine.proofs.plain.Plain.new.Goals as goal
+
+pub returns-in-Ok-clause-opening : goal.returns-in-Ok-clause-opening
+returns-in-Ok-clause-opening c =
+    let n = length c.items.result.now in let e = c.in-Ok.ensures in let passes = c.requires.passes in
+    let count : length (replicate n opening) ≡ n = length-replicate n opening in
+    let urbs : length c.in-Ok.plain.states.items ≡ n = ap length e.states ∙ count in record {
+      legal = empty;
+      passes = omega arith;
+      homes = e.homes ∙ c.items.ensures;
+      urbs = urbs ∙ ap length c.items.ensures;
+      ends = e.count ∙ ap length c.items-2.ensures;
+      states = λ u l. let low : u < n = omega arith in ap (λ xs. slice_get xs u) e.states ∙ (slice_get-get_or (replicate n opening) u opening (omega arith) ∙ ap Some (get_or-replicate n u opening opening low));
+      queues = λ d l. e.ends d (omega arith) ∙ ap (λ homes. Some (no_urbs (homed_at homes d))) c.items.ensures;
+      few = λ p u. omega arith;
+    }
