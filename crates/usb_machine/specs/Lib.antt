@@ -6,3 +6,4 @@ pub mod Legal
 pub mod Laws
 pub mod Queues
 pub mod Plain
+pub mod Calls
