@@ -16,3 +16,9 @@ pub mod ThreadTexts
 pub mod Scenes
 pub mod Formed
 pub mod Reading
+pub mod Steppings
+pub mod Chains
+pub mod Turning
+pub mod Submitting
+pub mod Making
+pub mod Preparing

@@ -11,3 +11,6 @@ pub mod Line
 pub mod Statements
 pub mod Rules
 pub mod Read
+pub mod Short
+pub mod Scripted
+pub mod Shows

@@ -2,16 +2,23 @@
 #![tactic(auto)]
 
 mod command;
+mod device;
 mod draft;
 mod input;
 mod laws;
+mod line;
 mod made;
 mod output;
+mod place;
+mod prepare;
 mod read;
 mod report;
 mod rules;
 mod scene;
 mod statement;
 mod status;
+mod submit;
+mod thread;
+mod turn;
 
 pub use laws::{a_run_in_line_order_is_a_run, a_scene_has_one_run_in_line_order};

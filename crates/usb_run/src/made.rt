@@ -1,6 +1,6 @@
 //! What a run leaves for its report.
 use crate::scene::Call;
-use usb_types::{Buf, Code};
+use usb_types::{Buf, Code, List};
 
 /// What a call answers.
 #[derive(Clone, Copy, Debug, PartialEq, Eq)]
@@ -29,4 +29,11 @@ pub struct Given {
     pub actual: u32,
     /// The moved bytes of an IN transfer.
     pub bytes: Buf,
+}
+
+/// What is left of a run: its calls with their answers, and what came back.
+#[derive(Debug, Drop)]
+pub struct Outcome {
+    pub made: List<Made>,
+    pub given: List<Given>,
 }

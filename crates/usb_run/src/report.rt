@@ -64,7 +64,13 @@ fn push_calls(report: &mut Buf, scene: &Scene, made: &[Made], thread: u32) -> Re
     Ok(())
 }
 
-fn push_thread(report: &mut Buf, scene: &Scene, made: &[Made], number: u32, thread: &SceneThread) -> Result<(), Memory>
+fn push_thread(
+    report: &mut Buf,
+    scene: &Scene,
+    made: &[Made],
+    number: u32,
+    thread: &SceneThread,
+) -> Result<(), Memory>
     ensures { OnOk result (report.new ≡ report.old ++ thread_text scene.now made.now number thread.now) }
 {
     report.append(b"thread ")?;
@@ -120,7 +126,12 @@ fn push_threads(report: &mut Buf, scene: &Scene, made: &[Made]) -> Result<(), Me
 }
 
 /// Adds the report of a run: the calls that were made, and what was given back.
-pub fn push_report(report: &mut Buf, scene: &Scene, made: &[Made], given: &[Given]) -> Result<(), Memory>
+pub fn push_report(
+    report: &mut Buf,
+    scene: &Scene,
+    made: &[Made],
+    given: &[Given],
+) -> Result<(), Memory>
     requires { length scene.now.threads < 2 ^ 32 }
     ensures { OnOk result (report.new ≡ report.old ++ text_of scene.now made.now given.now) }
 {

@@ -1,0 +1,13 @@
+use Rattle.std.proofs.Common.{◌≡◌, ℕ, ◌+◌, length}
+use Rattle.usb_run.specs.Scripted.{left_of, coming}
+use Rattle.usb_run.proofs.device.ScriptedDevice.input.Given as goal
+
+abbrev pub invariant-loop-self : goal.invariant-loop-self
+invariant-loop-self l = record {
+  address : l.self.address ≡ l.fn.self.address;
+  room : l.room ≡ l.fn.room;
+  next : (k : ℕ) → coming l.self k ≡ coming l.fn.self k;
+}
+
+abbrev pub decreases-loop-self : goal.decreases-loop-self
+decreases-loop-self l = length (left_of l.self) + length l.self.lines.now
