@@ -19,6 +19,10 @@ mod statement;
 mod status;
 mod submit;
 mod thread;
+mod top;
 mod turn;
 
+pub use input::INPUT_LIMIT;
 pub use laws::{a_run_in_line_order_is_a_run, a_scene_has_one_run_in_line_order};
+pub use status::{Cause, Status};
+pub use top::usbrun;
