@@ -22,3 +22,5 @@ pub mod Turning
 pub mod Submitting
 pub mod Making
 pub mod Preparing
+pub mod Sound
+pub mod WellRead

@@ -4,6 +4,7 @@ ghost use Rattle.usb_text.specs.Lines.{without_return};
 ghost use Rattle.usb_text.specs.Words.{words};
 ghost use Rattle.usb_run.specs.Statements.{keyword_of, keyword_said};
 ghost use Rattle.usb_run.specs.Rules.{may_stand, is_within};
+ghost use Rattle.usb_run.specs.WellFormed.{IsWellFormed};
 ghost use Rattle.usb_run.specs.Read.{line_words, in_place, is_header, words_read, plain_read, scene_of, LineGives, SceneGives};
 
 use crate::draft::Draft;
@@ -114,6 +115,7 @@ fn read_line(
 pub fn read_scene(alloc: Global, bytes: &[u8]) -> Result<Scene, SceneFault>
     requires { length bytes.now ≤ 1048576 }
     ensures exact { SceneGives result (scene_of bytes.now) }
+    ensures well_formed { IfOk result IsWellFormed }
 {
     let mut reading: Option<Draft> = None;
     let mut line: u32 = 0;

@@ -1,11 +1,12 @@
 -- What is known of a word of its kind.
-use Rattle.std.proofs.Common.{◌≡◌, ℕ, ◌≤◌, Bool, true, false, cond, List, length, Some, None, refl, sym, ap, ◌∙◌, arith, inl, inr, take, drop}
+use Rattle.std.proofs.Common.{◌≡◌, ℕ, ◌+◌, ◌≤◌, Bool, true, false, cond, eqb, List, [], ◌∷◌, length, suc, lit≤, Some, None, refl, sym, ap, ◌∙◌, arith, inl, inr, take, drop}
 use Rattle.std.specs.Prelude.{nat_le, ◌&&◌, codes}
 use Rattle.std.specs.Result.{result_ok}
 use Rattle.std.specs.Str.{bytes_eq}
 use Rattle.std.proofs.lemmas.Bool.{and_parts, or_cases, leb-true}
 use Rattle.std.proofs.lemmas.Option.{option_and_then_some}
 use Rattle.hex.specs.Hex.{decode_of}
+use Rattle.usb_text.specs.Lines.{onto_first, raw_lines}
 use Rattle.usb_text.specs.Kinds.{is_address, byte_of, address_of, packet_of, bytes_of}
 
 -- what an `if` with nothing on one side gives
@@ -40,3 +41,16 @@ packet_cases false digits bytes h = cc
 -- a packet has at most 1,024 bytes
 pub short_packet : (text bytes : List ℕ) → packet_of text ≡ Some bytes → length bytes ≤ 1024
 short_packet text bytes h = packet_cases (bytes_eq (take 2 text) (codes "p:")) (drop 2 text) bytes h
+
+length-onto_first : (b : ℕ) (pieces : List (List ℕ)) → length (onto_first b pieces) ≤ length pieces + 1
+length-onto_first b [] = lit≤ tt
+length-onto_first b (piece ∷ pieces) = omega arith
+
+length-line : (t : Bool) (b n : ℕ) (pieces : List (List ℕ)) → length pieces ≤ n → length (cond t ([] ∷ pieces) (onto_first b pieces)) ≤ suc n
+length-line true b n pieces h = omega arith
+length-line false b n pieces h = omega (arith, length-onto_first b pieces)
+
+-- a text has no more lines than bytes
+pub length-raw_lines : (bytes : List ℕ) → length (raw_lines bytes) ≤ length bytes
+length-raw_lines [] = lit≤ tt
+length-raw_lines (b ∷ bytes) = length-line (eqb b 10) b (length bytes) (raw_lines bytes) (length-raw_lines bytes)
