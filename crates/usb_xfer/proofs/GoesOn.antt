@@ -1,11 +1,11 @@
 -- One packet more.
-use Rattle.std.proofs.Common.{ℕ, zero, suc, ◌≡◌, ◌≢◌, ◌+◌, ◌-◌, ◌<◌, ◌≤◌, Bool, true, false, ◌&&◌, ◌||◌, cond, nat_le, nat_lt, Option, Some, None, List, [], ◌∷◌, ◌++◌, length, take, drop, refl, sym, ap, ◌∙◌, subst, arith, append_assoc, append-nil, length-append}
+use Rattle.std.proofs.Common.{ℕ, ◌≡◌, ◌≢◌, ◌+◌, ◌-◌, ◌<◌, ◌≤◌, Bool, true, false, ◌&&◌, ◌||◌, cond, nat_le, nat_lt, Option, Some, None, List, [], ◌∷◌, ◌++◌, length, take, drop, refl, sym, ap, ◌∙◌, subst, arith, append_assoc, append-nil, length-append}
 use Rattle.std.specs.Prelude.{◌==◌}
 use Rattle.std.proofs.lemmas.Grind.{common_steps}
 use Rattle.std.proofs.lemmas.List.{take-append-le}
 use Rattle.std.proofs.Math.Seq.{take-length}
 use mathlib.Core.Logic.{dite}
-use native.Mathlib.Decide.{ℕ_discrete, dec_lt}
+use native.Mathlib.Decide.{ℕ_discrete}
 use Rattle.usb_types.specs.declared.errno.Code.{Code}
 use Rattle.usb_types.specs.declared.errno.Code.TheVariants.{Zero, Fault}
 use Rattle.usb_types.specs.declared.errno.Errno.TheVariants.{EOVERFLOW, EREMOTEIO}
@@ -13,10 +13,10 @@ use Rattle.usb_machine.specs.declared.transfer.Transfer.{Transfer}
 use Rattle.usb_xfer.specs.declared.device.Reply.{Reply}
 use Rattle.usb_xfer.specs.declared.device.Reply.TheVariants.{Nak, Stall, Error, Packet}
 use Rattle.usb_xfer.specs.declared.packet.Step.{Step}
-use Rattle.usb_xfer.specs.declared.packet.Step.TheVariants.{More, Waiting, Ended}
-use Rattle.usb_xfer.specs.Moved.{moved, moved_state, state_by, ending, ends_with_nak, IsOpen, IsWhole, reply_moves, reply_step, Advances}
+use Rattle.usb_xfer.specs.declared.packet.Step.TheVariants.{More, Ended}
+use Rattle.usb_xfer.specs.Moved.{moved, moved_state, state_by, IsOpen, IsWhole, reply_moves, reply_step, Advances}
 use Rattle.usb_machine.specs.Shapes.{HasWindow}
-use Rattle.usb_xfer.specs.On.{SoFar, GoneOn, Stops, RunsOn}
+use Rattle.usb_xfer.specs.On.{GoneOn, RunsOn}
 
 open_state : (c : Option Code) (b : Bool) → state_by c b ≡ More → c ≡ None
 open_state (Some c) b e = cc

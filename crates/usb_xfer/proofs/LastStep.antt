@@ -1,19 +1,18 @@
 -- One more reply does what all the replies together do.
-use Rattle.std.proofs.Common.{ℕ, ◌≡◌, ◌+◌, ◌-◌, ◌<◌, ◌≤◌, Bool, true, false, not, ◌&&◌, ◌||◌, cond, nat_le, nat_lt, if◌then◌else◌, Option, Some, None, List, [], ◌∷◌, ◌++◌, length, take, drop, refl, sym, ap, ◌∙◌, subst, arith, append_assoc, append-nil, length-append, true≢false}
+use Rattle.std.proofs.Common.{ℕ, ◌≡◌, ◌+◌, ◌-◌, ◌≤◌, Bool, true, false, not, ◌&&◌, ◌||◌, cond, nat_le, nat_lt, if◌then◌else◌, Option, Some, None, List, [], ◌∷◌, ◌++◌, length, take, drop, refl, sym, ap, ◌∙◌, subst, arith, append_assoc, append-nil, length-append, true≢false}
 use Rattle.std.specs.Prelude.{◌==◌}
 use Rattle.std.specs.List.{flat_map}
 use Rattle.std.proofs.lemmas.Grind.{common_steps, flat_map-append}
 use Rattle.std.proofs.lemmas.List.{drop-drop, length-take-le}
 use Rattle.std.proofs.Math.Seq.{take-append_seam, drop-append-add}
-use Rattle.usb_types.specs.declared.errno.Errno.TheVariants.{EPIPE, EPROTO, EOVERFLOW, EREMOTEIO}
+use Rattle.usb_types.specs.declared.errno.Errno.TheVariants.{EOVERFLOW, EREMOTEIO}
 use Rattle.usb_types.specs.declared.errno.Code.{Code}
 use Rattle.usb_types.specs.declared.errno.Code.TheVariants.{Zero, Fault}
 use Rattle.usb_machine.specs.declared.transfer.Transfer.{Transfer}
 use Rattle.usb_xfer.specs.declared.device.Reply.{Reply}
 use Rattle.usb_xfer.specs.declared.device.Reply.TheVariants.{Nak, Stall, Error, Packet}
-use Rattle.usb_xfer.specs.declared.packet.Step.{Step}
-use Rattle.usb_xfer.specs.declared.packet.Step.TheVariants.{More, Waiting, Ended}
-use Rattle.usb_xfer.specs.Moved.{bytes_of, lengths, is_good, stops, end_code, good_bytes, ending, with_bytes, moved, is_nak, ends_with_nak, state_by, moved_state, IsWhole, IsOpen, reply_moves, reply_step, IsLastStep}
+use Rattle.usb_xfer.specs.declared.packet.Step.TheVariants.{More, Ended}
+use Rattle.usb_xfer.specs.Moved.{bytes_of, lengths, is_good, stops, end_code, good_bytes, ending, with_bytes, moved, is_nak, ends_with_nak, state_by, moved_state, IsOpen, reply_moves, reply_step, IsLastStep}
 use Rattle.usb_machine.specs.Shapes.{HasWindow}
 
 module _ (max len : ℕ) where

@@ -1,6 +1,6 @@
-use Rattle.std.proofs.Common.{List, ◌≡◌, ◌<◌, ◌-◌, ◌++◌, ◌∷◌, [], sym, ap, ◌∙◌, subst}
+use Rattle.std.proofs.Common.{◌<◌, ◌-◌, ◌++◌, ◌∷◌, [], sym, ◌∙◌, subst}
 use Rattle.usb_machine.specs.declared.transfer.Transfer.{Transfer}
-use Rattle.usb_xfer.specs.On.{Gave, GoneOn, nothing, one_more}
+use Rattle.usb_xfer.specs.On.{nothing, one_more}
 use Rattle.usb_xfer.proofs.GoesOn.{goes_on, stops_at, gone_nowhere, falls}
 use Rattle.usb_xfer.proofs.on.advance_on.Goals as goal
 

@@ -1,12 +1,12 @@
-use Rattle.std.proofs.Common.{◌≡◌, ℕ, ◌+◌, ◌-◌, ◌≤◌, min, Bool, true, false, cond, nat_le, ◌&&◌, List, [], ◌++◌, length, take, drop, refl, sym, ap, ◌∙◌, subst, arith, append_assoc, append-nil, length-append, length-drop}
+use Rattle.std.proofs.Common.{◌≡◌, ℕ, ◌+◌, ◌-◌, ◌≤◌, min, Bool, true, false, cond, nat_le, ◌&&◌, List, ◌++◌, length, take, drop, refl, sym, ap, ◌∙◌, subst, arith, append_assoc, length-drop}
 use Rattle.std.proofs.lemmas.Grind.{common_steps}
 use Rattle.std.proofs.lemmas.List.{take-append-drop, drop-append-le, drop-drop, length-take-le}
-use Rattle.std.proofs.Math.Seq.{take-append_seam, drop-append_seam, take-length}
+use Rattle.std.proofs.Math.Seq.{take-append_seam}
 use borrow.Rule.Slice.PartMut.{put_mid, put_same}
 use Rattle.usb_machine.specs.declared.transfer.Transfer.{Transfer}
 use Rattle.usb_xfer.specs.declared.device.Reply.{Reply}
 use Rattle.usb_xfer.specs.declared.device.Reply.TheVariants.{Nak, Stall, Error, Packet}
-use Rattle.usb_xfer.specs.Replies.{room_after, heard_of, Answers}
+use Rattle.usb_xfer.specs.Replies.{room_after}
 use Rattle.usb_xfer.specs.Moved.{filled}
 use Rattle.usb_machine.specs.Shapes.{HasWindow}
 use Rattle.usb_xfer.proofs.packet.ask.Goals as goal
