@@ -1,5 +1,5 @@
 -- The replies of a scripted device are a stretch of its script.
-use Rattle.std.proofs.Common.{ℕ, ◌≡◌, ◌+◌, ◌<◌, ◌≤◌, List, [], ◌∷◌, ◌++◌, length, take, refl, sym, ap, ◌∙◌, subst, arith, add-zero, length-append}
+use Rattle.std.proofs.Common.{ℕ, ◌≡◌, ◌+◌, ◌<◌, List, [], ◌∷◌, ◌++◌, length, take, refl, sym, ap, ◌∙◌, subst, arith, add-zero, length-append}
 use Rattle.usb_machine.specs.declared.transfer.Transfer.{Transfer}
 use Rattle.usb_xfer.specs.declared.device.Reply.{Reply}
 use Rattle.usb_xfer.specs.declared.packet.Step.{Step}
@@ -11,7 +11,7 @@ use Rattle.usb_run.specs.declared.scene.Item.{Item}
 use Rattle.usb_run.specs.declared.device.Scripted.{Scripted}
 use Rattle.usb_run.specs.Script.{reply_at, stretch}
 use Rattle.usb_run.specs.Prepared.{max_of, script_of}
-use Rattle.usb_run.specs.Scripted.{coming, IsAfter, Replied}
+use Rattle.usb_run.specs.Scripted.{IsAfter, Replied}
 use Rattle.usb_run.specs.Line.{Far, served_end, spent, GoesTo}
 use Rattle.usb_run.proofs.Stretches.{stretch-append, take-stretch}
 

@@ -1,10 +1,8 @@
 -- One call more.
-use Rattle.std.proofs.Common.{ℕ, ◌≡◌, ◌+◌, ◌<◌, get_or, take, List, [], ◌∷◌, ◌++◌, length, map, refl, sym, ap, ◌∙◌, subst, append_assoc}
+use Rattle.std.proofs.Common.{ℕ, ◌≡◌, ◌+◌, ◌<◌, get_or, take, List, [], ◌∷◌, ◌++◌, length, map, sym, ap, ◌∙◌, subst, append_assoc}
 use Rattle.std.proofs.lemmas.List.{map-append, take_more}
 use Rattle.usb_types.specs.declared.errno.Code.{Code}
 use Rattle.usb_machine.specs.declared.transfer.Transfer.{Transfer}
-use Rattle.usb_machine.specs.State.{refusal}
-use Rattle.usb_machine.specs.History.{state_of}
 use Rattle.usb_run.specs.declared.scene.Scene.{Scene}
 use Rattle.usb_run.specs.declared.scene.Call.{Call}
 use Rattle.usb_run.specs.declared.scene.CallKind.TheVariants as call
@@ -14,7 +12,7 @@ use Rattle.usb_run.specs.declared.made.Told.TheVariants as told
 use Rattle.usb_run.specs.declared.place.Place.{Place}
 use Rattle.usb_run.specs.declared.place.Place.TheVariants as place
 use Rattle.usb_run.specs.declared.turn.LineRun.{LineRun}
-use Rattle.usb_run.specs.Line.{Far, GivesBack, IsIdle, nothing, waiting, with_call, with_serve, IsLine, submit, serve}
+use Rattle.usb_run.specs.Line.{Far, with_call, with_serve, IsLine, submit, serve}
 use Rattle.usb_run.specs.Shows.{IsMoving, Lists, Lies, Shows, Served, Submitted, submit_made, CallMade, IsAt, calls_in}
 use Rattle.usb_run.proofs.Lines.{gives_made, idle_made}
 

@@ -1,5 +1,5 @@
 -- One event more of the machine.
-use Rattle.std.proofs.Common.{ℕ, ◌≡◌, ◌<◌, Option, List, [], ◌∷◌, ◌++◌, refl, sym, ap, ◌∙◌, subst}
+use Rattle.std.proofs.Common.{ℕ, ◌≡◌, ◌<◌, Option, List, [], ◌∷◌, ◌++◌, sym, ◌∙◌, subst}
 use Rattle.usb_machine.specs.declared.event.Event.{Event}
 use Rattle.usb_machine.specs.declared.event.Answer.{Answer}
 use Rattle.usb_machine.specs.declared.transfer.Transfer.{Transfer}

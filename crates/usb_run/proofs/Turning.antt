@@ -1,6 +1,6 @@
 -- What a turn does to what the run's object keeps.
 use Rattle.std.proofs.Common.{ℕ, ◌≡◌, ◌≢◌, ◌+◌, ◌<◌, Bool, true, false, Option, Some, None, List, [], ◌∷◌, ◌++◌, length, map, refl, sym, ap, ◌∙◌, subst, arith, append-nil, length-append}
-use Rattle.std.specs.Prelude.{slice_get, IfSome}
+use Rattle.std.specs.Prelude.{IfSome}
 use Rattle.std.proofs.lemmas.List.{map-append, length-map}
 use Rattle.std.proofs.lemmas.Grind.{flat_map-append}
 use Rattle.usb_types.specs.declared.errno.Code.{Code}
@@ -14,7 +14,6 @@ use Rattle.usb_xfer.specs.declared.device.Reply.{Reply}
 use Rattle.usb_xfer.specs.declared.packet.Step.{Step}
 use Rattle.usb_xfer.specs.declared.packet.Step.TheVariants.{More, Waiting, Ended}
 use Rattle.usb_xfer.specs.Moved.{moved, state_by}
-use Rattle.usb_machine.specs.Shapes.{HasWindow}
 use Rattle.usb_xfer.specs.On.{Gave, RunsOn, Stops}
 use Rattle.usb_run.specs.declared.scene.Scene.{Scene}
 use Rattle.usb_run.specs.declared.made.Given.{Given}
@@ -24,14 +23,14 @@ use Rattle.usb_run.specs.declared.place.Place.{Place}
 use Rattle.usb_run.specs.declared.place.Place.TheVariants as place
 use Rattle.usb_run.specs.declared.turn.LineRun.{LineRun}
 use Rattle.usb_run.specs.Script.{stretch}
-use Rattle.usb_run.specs.Prepared.{home_at, machine_of, shapes_of, max_of, script_of}
+use Rattle.usb_run.specs.Prepared.{home_at, machine_of, max_of, script_of}
 use Rattle.usb_run.specs.WellFormed.{IsWellFormed}
 use Rattle.usb_run.specs.Run.{Round, round_entries, replies_in}
 use Rattle.usb_run.specs.Scripted.{IsAfter, Replied}
 use Rattle.usb_run.specs.Given.{moved_bytes, given_of}
-use Rattle.usb_run.specs.Line.{Far, served_end, spent, taken, had_after, GoesTo, IsServed, round_of, given_back, waits, IsIdle, nothing, waiting, GivesBack, one}
+use Rattle.usb_run.specs.Line.{Far, served_end, spent, taken, had_after, GoesTo, IsServed, round_of, given_back, waits, nothing, waiting, one}
 use Rattle.usb_run.specs.Shows.{code_of, in_place, is_held, IsHeldBy, IsGated, IsMoving, Lists, Lies, Shows, CanGive, Turned}
-use Rattle.usb_run.proofs.Homes.{ServedShape, home_served, served_shape, size_served}
+use Rattle.usb_run.proofs.Homes.{home_served, served_shape, size_served}
 use Rattle.usb_run.proofs.Takes.{takes_line, takes_pending, takes_state, takes_sent}
 use Rattle.usb_run.proofs.Rounds.{round_state, round_line, round_pending}
 use Rattle.usb_run.proofs.Stretches.{length-stretch}

@@ -1,7 +1,7 @@
 -- Packets whose length is a 32-bit number.
-use Rattle.std.specs.Prelude.{ℕ, ◌^◌, Bool, true, ◌&&◌, nat_lt, List, [], ◌∷◌, length}
+use Rattle.std.specs.Prelude.{◌^◌, Bool, true, ◌&&◌, nat_lt, List, [], ◌∷◌, length}
 use Rattle.usb_xfer.specs.declared.device.Reply.{Reply}
-use Rattle.usb_xfer.specs.declared.device.Reply.TheVariants.{Nak, Stall, Error, Packet}
+use Rattle.usb_xfer.specs.declared.device.Reply.TheVariants.{Packet}
 use Rattle.usb_run.specs.declared.scene.Item.{Item}
 use Rattle.usb_run.specs.declared.scene.Answers.{Answers}
 

@@ -1,4 +1,4 @@
-use Rattle.std.proofs.Common.{ℕ, ◌≡◌, List, [], ◌∷◌, ◌++◌, sym, refl, subst}
+use Rattle.std.proofs.Common.{ℕ, List, [], ◌++◌, sym, refl, subst}
 use Rattle.usb_machine.specs.Plain.{Stands}
 use Rattle.usb_run.specs.Prepared.{machine_of}
 use Rattle.usb_run.specs.Line.{takes}

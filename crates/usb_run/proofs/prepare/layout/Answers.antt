@@ -1,4 +1,4 @@
-use Rattle.std.proofs.Common.{ℕ, ◌≡◌, ◌<◌, ◌≤◌, ◌^◌, length, List, arith, ap, ◌∙◌}
+use Rattle.std.proofs.Common.{◌≡◌, length, List, arith, ap, ◌∙◌}
 use Rattle.usb_machine.specs.declared.layout.Shape.{Shape}
 use Rattle.usb_run.specs.Prepared.{shapes_of, shapes_from}
 use Rattle.usb_run.proofs.Preparing.{few_shapes}

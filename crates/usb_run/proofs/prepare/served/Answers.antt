@@ -1,5 +1,4 @@
-use Rattle.std.proofs.Common.{◌≡◌, ◌∙◌, true, ap, subst, sym, List}
-use Rattle.usb_run.specs.declared.scene.Answers.{Answers}
+use Rattle.std.proofs.Common.{◌∙◌, ap}
 use Rattle.usb_run.specs.Short.{lines_are_short}
 use Rattle.usb_run.proofs.Preparing.{device_fits}
 use Rattle.usb_run.proofs.prepare.served.Goals as goal

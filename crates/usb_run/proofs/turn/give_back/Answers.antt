@@ -1,12 +1,12 @@
-use Rattle.std.proofs.Common.{ℕ, ◌≡◌, ◌<◌, ◌^◌, [], ◌∷◌, ◌++◌, List, sym, refl, ap, ◌∙◌, subst, arith}
+use Rattle.std.proofs.Common.{ℕ, ◌≡◌, ◌<◌, ◌^◌, [], ◌∷◌, List, sym, refl, ap, ◌∙◌, subst, arith}
 use Rattle.usb_machine.specs.declared.event.Event.TheVariants.{Finish, Give, Rest, End}
 use Rattle.usb_machine.specs.declared.entry.Entry.{Entry}
 use Rattle.usb_machine.specs.declared.state.UrbState.{UrbState}
-use Rattle.usb_machine.specs.History.{home_of, state_of, pending_of}
+use Rattle.usb_machine.specs.History.{home_of, state_of}
 use Rattle.usb_machine.specs.Plain.{Stands}
 use Rattle.usb_run.specs.Prepared.{machine_of}
 use Rattle.usb_run.specs.Line.{served_end}
-use Rattle.usb_run.specs.Shows.{told_code, CanGive}
+use Rattle.usb_run.specs.Shows.{told_code}
 use Rattle.usb_run.proofs.MayFollow.{finish, give, rest, end, finished, given, rested, finished_state, IsReady, first_follows, second_follows, third_follows, fourth_follows}
 use Rattle.usb_run.proofs.Rounds.{entry_by_entry}
 use Rattle.usb_run.proofs.Steppings.{step_makes}

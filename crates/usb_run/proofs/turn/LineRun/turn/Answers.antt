@@ -1,15 +1,13 @@
-use Rattle.std.proofs.Common.{ℕ, ◌≡◌, Option, Some, None, sym, ap, ◌∙◌, subst}
-use Rattle.usb_machine.specs.declared.transfer.Transfer.{Transfer}
+use Rattle.std.proofs.Common.{◌≡◌, Some, sym, ap, ◌∙◌, subst}
 use Rattle.usb_machine.specs.declared.plain.Plain.{Plain}
 use Rattle.usb_machine.specs.Plain.{Stands}
 use Rattle.usb_run.specs.declared.scene.Scene.{Scene}
 use Rattle.usb_run.specs.declared.place.Place.{Place}
-use Rattle.usb_run.specs.declared.place.Place.TheVariants as place
 use Rattle.usb_run.specs.declared.turn.LineRun.{LineRun}
 use Rattle.usb_run.specs.Prepared.{machine_of}
 use Rattle.usb_run.specs.Line.{Far, taken}
 use Rattle.usb_run.specs.Shows.{in_place, Lies, Shows}
-use Rattle.usb_run.proofs.Turning.{behind, shows_taken, turned_none, has_urb, turned_waiting, can_give, same_number, turned_given}
+use Rattle.usb_run.proofs.Turning.{shows_taken, turned_none, has_urb, turned_waiting, can_give, same_number, turned_given}
 use Rattle.usb_run.proofs.turn.LineRun.turn.Goals as goal
 
 -- what take_in left
