@@ -18,7 +18,7 @@ pub some_unless : {X : Type 0} (t : Bool) (x y : X) → cond t None (Some x) ≡
 some_unless true x y h = cc
 some_unless false x y h = (refl, cc)
 
-address_range : (a : ℕ) → is_address a ≡ true → a ≤ 143
+pub address_range : (a : ℕ) → is_address a ≡ true → a ≤ 143
 address_range a h =
     elim (or_cases (nat_le a 15) (nat_le 129 a && nat_le a 143) h) as (λ _. a ≤ 143)
     [ inl x ↦ omega (arith, leb-true a 15 x) | inr y ↦ leb-true a 143 (and_parts (nat_le 129 a) (nat_le a 143) y).1 ]

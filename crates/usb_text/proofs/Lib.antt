@@ -1,2 +1,3 @@
-pub mod Splits
+pub mod Back
 pub mod Known
+pub mod Splits

@@ -2,3 +2,4 @@ pub mod Kinds
 pub mod Lines
 pub mod Print
 pub mod Words
+pub mod Written

@@ -1,9 +1,9 @@
-ghost use Rattle.std.specs.Prelude.{◌≡◌, ◌<◌, ◌≤◌, ◌∷◌, [], ◌++◌, length, not, IfSome, IfNone, IfOk};
+ghost use Rattle.std.specs.Prelude.{◌≡◌, ◌<◌, ◌≤◌, ◌∷◌, [], length, not, IfSome, IfNone, IfOk};
 ghost use Rattle.std.specs.List.{prefix_len};
 ghost use Rattle.usb_text.specs.Words.{is_blank, is_comment, all_words, words};
 
 use std::alloc::Global;
-use usb_types::{Buf, List, Memory};
+use usb_types::{Buf, Memory};
 
 #[tactic(auto, unfolding(crate::specs::Words::is_blank))]
 fn is_blank(b: u8) -> bool
@@ -74,17 +74,4 @@ pub fn copy(alloc: Global, bytes: &[u8]) -> Result<Buf, Memory>
         Ok(bytes) => Ok(Buf::of(bytes)),
         Err(_) => Err(Memory),
     }
-}
-
-/// Copies of all words of a line.
-pub fn copied_words(alloc: Global, line: &[u8]) -> Result<List<Buf>, Memory>
-    ensures { IfOk result (λ found. found ≡ words line.now) }
-{
-    let mut found = List::of(Vec::new(alloc));
-    let mut rest = line;
-    while let Some((word, behind)) = next_word(rest) {
-        found.push(copy(alloc, word)?)?;
-        rest = behind;
-    }
-    Ok(found)
 }
