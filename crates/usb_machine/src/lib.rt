@@ -4,6 +4,7 @@
 mod change;
 mod entry;
 mod event;
+mod fault;
 mod layout;
 mod plain;
 mod queues;
@@ -12,6 +13,7 @@ mod transfer;
 
 pub use entry::{Entry, HUB, SERVER};
 pub use event::{Answer, Event};
+pub use fault::shape_fault;
 pub use layout::{EndKind, Layout, Shape};
 pub use plain::Plain;
 pub use state::{Flags, Mark, UrbState};
