@@ -5,6 +5,7 @@ mod change;
 mod entry;
 mod event;
 mod fault;
+pub mod laws;
 mod layout;
 mod plain;
 mod queues;
