@@ -156,7 +156,7 @@ none_more u [] x all e = (e, tt)
 none_more u (y ∷ xs) x all e = (all.0, none_more u xs x all.1 e)
 
 -- who is kept after an event was kept before, or the event is a Quiet of it
-kept_before : (d : Held) (e : Event) → (held_after d e).kept ≡ true → (d.kept ≡ true) ⊎ ((u : _) × (e ≡ Quiet u))
+pub kept_before : (d : Held) (e : Event) → (held_after d e).kept ≡ true → (d.kept ≡ true) ⊎ ((u : _) × (e ≡ Quiet u))
 kept_before d (Withdraw u) k = inl (both_true _ _ k).0
 kept_before d (Unflag u f) k = inl (both_true _ _ k).0
 kept_before d (Quiet u) k = inr (u, refl)
