@@ -1,7 +1,7 @@
 -- The rejects of an URB are those that the passes hold, and its flags are the hub's.
 use mathlib.Core.Logic.{dite}
 use native.Mathlib.Decide.{ℕ_discrete}
-use Rattle.std.proofs.Common.{◌⊎◌, inl, inr, ⊎_elim, ◌≡◌, ℕ, ◌+◌, ◌<◌, ◌≤◌, Bool, true, false, cond, List, [], ◌∷◌, ◌++◌, sym, refl, ap, ◌∙◌, subst, arith, eqb-true}
+use Rattle.std.proofs.Common.{◌⊎◌, inl, inr, ⊎_elim, ◌≡◌, ℕ, ◌+◌, ◌<◌, ◌≤◌, Bool, true, false, cond, eqb, List, [], ◌∷◌, ◌++◌, sym, refl, ap, ◌∙◌, subst, arith, eqb-true}
 use Rattle.usb_machine.specs.declared.event.Event.{Event}
 use Rattle.usb_machine.specs.declared.event.Event.TheVariants.{Submit, Link, Take, Mark, Finish, Give, Rest, End, Reject, Withdraw, Quiet, Claim, Flag, Unflag}
 use Rattle.usb_machine.specs.declared.event.Answer.{Answer}
@@ -12,7 +12,9 @@ use Rattle.usb_machine.specs.State.{after, with_flag, accepted, finishes}
 use Rattle.usb_machine.specs.History.{state_of, after_entry, is_of}
 use Rattle.usb_machine.specs.Parts.{part_of, Held, held_of, held_after}
 use Rattle.usb_machine.specs.Legal.{May, IsLegal, empty, longer}
-use Rattle.usb_machine.proofs.Steps.{state_of-snoc, held_at, held_own, held_other}
+use Rattle.usb_machine.specs.Laws.{rejects_after, rejects, withdraws_after, withdraws}
+use Rattle.usb_machine.proofs.Steps.{state_of-snoc, held_of-snoc, part_own, part_other, held_at, held_own, held_other}
+use Rattle.std.proofs.lemmas.List.Sums.{fold-append}
 use Rattle.usb_machine.proofs.Totals.{total, total_one, part_of_total, total_none}
 
 same_either : (b : Bool) (s t : UrbState) → t.rejects ≡ s.rejects → (cond b t s).rejects ≡ s.rejects
@@ -115,3 +117,45 @@ flags_are_held g u _ (longer h x legal f) =
     own ∙ flags_at (is_of u x.event) x.event x.answer (state_of h u) (held_of (part_of h 1) u) known ∙ sym now)
     (λ other. ap (λ (k : Held). k.flags) (held_other h x u 1 other) ∙ known
     ∙ ⊎_elim (λ p. sym (flags_by_other (is_of u x.event) x.event x.answer (state_of h u) p)) (λ hub. absurd (other (sym hub))) (no_flag_or_hub g h x.pass x.event f.may) ∙ sym now)
+
+same_held : (t : Bool) (d now : Held) → now.rejects ≡ d.rejects → (cond t now d).rejects ≡ d.rejects
+same_held true d now e = e
+same_held false d now e = refl
+
+-- what a pass holds in rejects is how many it made less how many it withdrew
+counted_after : (u : ℕ) (e : Event) (d : Held) (n k : ℕ) → n ≡ d.rejects + k → (is_of u e ≡ true → Backed e d.rejects) → rejects_after u n e ≡ (cond (is_of u e) (held_after d e) d).rejects + withdraws_after u k e
+counted_after u (Reject v) d n k i b = go (eqb v.0 u)
+  where
+    go : (t : Bool) → cond t (n + 1) n ≡ (cond t (held_after d (Reject v)) d).rejects + k
+    go true = omega arith
+    go false = i
+counted_after u (Withdraw v) d n k i b = go (eqb v.0 u) b
+  where
+    go : (t : Bool) → (t ≡ true → 0 < d.rejects) → n ≡ (cond t (held_after d (Withdraw v)) d).rejects + cond t (k + 1) k
+    go true l = let z = l refl in omega arith
+    go false l = i
+counted_after u (Take c) d n k i b = i
+counted_after u (Submit v m) d n k i b = i ∙ ap (λ r. r + k) (sym (same_held (eqb v.0 u) d (held_after d (Submit v m)) refl))
+counted_after u (Link v) d n k i b = i ∙ ap (λ r. r + k) (sym (same_held (eqb v.0 u) d (held_after d (Link v)) refl))
+counted_after u (Mark v w) d n k i b = i ∙ ap (λ r. r + k) (sym (same_held (eqb v.0 u) d (held_after d (Mark v w)) refl))
+counted_after u (Finish v c) d n k i b = i ∙ ap (λ r. r + k) (sym (same_held (eqb v.0 u) d (held_after d (Finish v c)) refl))
+counted_after u (Give v) d n k i b = i ∙ ap (λ r. r + k) (sym (same_held (eqb v.0 u) d (held_after d (Give v)) refl))
+counted_after u (Rest v m) d n k i b = i ∙ ap (λ r. r + k) (sym (same_held (eqb v.0 u) d (held_after d (Rest v m)) refl))
+counted_after u (End v) d n k i b = i ∙ ap (λ r. r + k) (sym (same_held (eqb v.0 u) d (held_after d (End v)) refl))
+counted_after u (Quiet v) d n k i b = i ∙ ap (λ r. r + k) (sym (same_held (eqb v.0 u) d (held_after d (Quiet v)) refl))
+counted_after u (Claim v) d n k i b = i ∙ ap (λ r. r + k) (sym (same_held (eqb v.0 u) d (held_after d (Claim v)) refl))
+counted_after u (Flag v f) d n k i b = i ∙ ap (λ r. r + k) (sym (same_held (eqb v.0 u) d (held_after d (Flag v f)) refl))
+counted_after u (Unflag v f) d n k i b = i ∙ ap (λ r. r + k) (sym (same_held (eqb v.0 u) d (held_after d (Unflag v f)) refl))
+
+pub rejects_are_counted : (g : Machine) (p u : ℕ) (h : List Entry) → IsLegal g h → rejects (part_of h p) u ≡ (held_of (part_of h p) u).rejects + withdraws (part_of h p) u
+rejects_are_counted g p u _ empty = refl
+rejects_are_counted g p u _ (longer h x legal f) = let old = rejects_are_counted g p u h legal in dite (ℕ_discrete p x.pass)
+    (λ is. subst (λ q. rejects (part_of (h ++ x ∷ []) q) u ≡ (held_of (part_of (h ++ x ∷ []) q) u).rejects + withdraws (part_of (h ++ x ∷ []) q) u) (sym is)
+    (subst (λ m. rejects m u ≡ (held_of m u).rejects + withdraws m u) (sym (part_own h x)) (more (part_of h x.pass) (backed g h x.pass u x.event) (subst (λ q. rejects (part_of h q) u ≡ (held_of (part_of h q) u).rejects + withdraws (part_of h q) u) is old))))
+    (λ other. subst (λ m. rejects m u ≡ (held_of m u).rejects + withdraws m u) (sym (part_other h x p other)) old)
+  where
+    more : (m : List Entry) → (is_of u x.event ≡ true → May g h x.pass x.event → Backed x.event (held_of m u).rejects) → rejects m u ≡ (held_of m u).rejects + withdraws m u → rejects (m ++ x ∷ []) u ≡ (held_of (m ++ x ∷ []) u).rejects + withdraws (m ++ x ∷ []) u
+    more m back old =
+        let a = fold-append (λ n y. rejects_after u n y.event) 0 m (x ∷ []) in let b = fold-append (λ n y. withdraws_after u n y.event) 0 m (x ∷ []) in
+        let d : (held_of (m ++ x ∷ []) u).rejects ≡ (cond (is_of u x.event) (held_after (held_of m u) x.event) (held_of m u)).rejects = ap (λ (k : Held). k.rejects) (held_of-snoc m x u) in
+        let step = counted_after u x.event (held_of m u) (rejects m u) (withdraws m u) old (λ is. back is f.may) in omega arith

@@ -156,7 +156,7 @@ none_more u [] x all e = (e, tt)
 none_more u (y ∷ xs) x all e = (all.0, none_more u xs x all.1 e)
 
 -- who is kept after an event was kept before, or the event is a Quiet of it
-kept_before : (d : Held) (e : Event) → (held_after d e).kept ≡ true → (d.kept ≡ true) ⊎ ((u : _) × (e ≡ Quiet u))
+pub kept_before : (d : Held) (e : Event) → (held_after d e).kept ≡ true → (d.kept ≡ true) ⊎ ((u : _) × (e ≡ Quiet u))
 kept_before d (Withdraw u) k = inl (both_true _ _ k).0
 kept_before d (Unflag u f) k = inl (both_true _ _ k).0
 kept_before d (Quiet u) k = inr (u, refl)
@@ -180,13 +180,13 @@ is_kept g p u _ (longer h x legal f) l k =
           let c = calm_after g u h x.pass (placed g u h legal) f.pass (blocked g p u h legal l (kept_holds (part_of h p) u i)) old.queued old.handlers x.event x.answer f.may f.answers in
           record {
             since = old.since ++ x ∷ [];
-            entries = goes_on h old.since x old.entries;
+            entries = goes_on h old.since x old.entries k;
             unstirred = none_more u old.since x old.unstirred c.0;
             queued = ap (λ (s : UrbState). s.queued) (state_of-snoc h x u) ∙ c.1.0;
             handlers = ap (λ (s : UrbState). s.handlers) (state_of-snoc h x u) ∙ c.1.1;
           })
       | false ↦ (λ i. let m = new i in
-          record { since = []; entries = begins h x i; unstirred = tt; queued = ap (λ (s : UrbState). s.queued) (state_of-snoc h x u) ∙ m.0; handlers = ap (λ (s : UrbState). s.handlers) (state_of-snoc h x u) ∙ m.1 })
+          record { since = []; entries = begins h x m.0 m.1 i k; unstirred = tt; queued = ap (λ (s : UrbState). s.queued) (state_of-snoc h x u) ∙ m.2; handlers = ap (λ (s : UrbState). s.handlers) (state_of-snoc h x u) ∙ m.3 })
     ] in was (keeps (part_of h p) u) refl
   where
     quiet : (e : Event) (v : _) → e ≡ Quiet v → is_of u e ≡ true → May g h x.pass e → ((state_of h u).queued ≡ false) × ((state_of h u).handlers ≡ 0)
@@ -196,15 +196,15 @@ is_kept g p u _ (longer h x legal f) l k =
     unchanged e v i true = ap (λ y. after y x.answer (state_of h u)) i
     unchanged e v i false = refl
 
-    new : keeps (part_of h p) u ≡ false → ((cond (is_of u x.event) (after x.event x.answer (state_of h u)) (state_of h u)).queued ≡ false) × ((cond (is_of u x.event) (after x.event x.answer (state_of h u)) (state_of h u)).handlers ≡ 0)
+    new : keeps (part_of h p) u ≡ false → (x.pass ≡ p) × (x.event ≡ Quiet record { 0 = u }) × ((cond (is_of u x.event) (after x.event x.answer (state_of h u)) (state_of h u)).queued ≡ false) × ((cond (is_of u x.event) (after x.event x.answer (state_of h u)) (state_of h u)).handlers ≡ 0)
     new i = dite (ℕ_discrete p x.pass)
         (λ is. let now : (cond (is_of u x.event) (held_after (held_of (part_of h p) u) x.event) (held_of (part_of h p) u)).kept ≡ true
-        = ap (λ (d : Held). d.kept) (sym (subst (λ q. held_of (part_of (h ++ x ∷ []) q) u ≡ held_at u (held_of (part_of h q) u) x) (sym is) (held_own h x u))) ∙ k in go (is_of u x.event) refl now)
+        = ap (λ (d : Held). d.kept) (sym (subst (λ q. held_of (part_of (h ++ x ∷ []) q) u ≡ held_at u (held_of (part_of h q) u) x) (sym is) (held_own h x u))) ∙ k in let q = go (is_of u x.event) refl now in (sym is, q.0, q.1, q.2))
         (λ other. absurd (true≢false (sym k ∙ (ap (λ (d : Held). d.kept) (held_other h x u p other) ∙ i))))
       where
         go : (b : Bool) → is_of u x.event ≡ b → (cond b (held_after (held_of (part_of h p) u) x.event) (held_of (part_of h p) u)).kept ≡ true
-            → ((cond (is_of u x.event) (after x.event x.answer (state_of h u)) (state_of h u)).queued ≡ false) × ((cond (is_of u x.event) (after x.event x.answer (state_of h u)) (state_of h u)).handlers ≡ 0)
+            → (x.event ≡ Quiet record { 0 = u }) × ((cond (is_of u x.event) (after x.event x.answer (state_of h u)) (state_of h u)).queued ≡ false) × ((cond (is_of u x.event) (after x.event x.answer (state_of h u)) (state_of h u)).handlers ≡ 0)
         go false e now = absurd (true≢false (sym now ∙ i))
         go true e now = ⊎_elim (λ old. absurd (true≢false (sym old ∙ i)))
             (λ (q : (v : _) × (x.event ≡ Quiet v)). let m = quiet x.event q.0 q.1 e f.may in let s = unchanged x.event q.0 q.1 (is_of u x.event) in
-            (ap (λ (z : UrbState). z.queued) s ∙ m.0, ap (λ (z : UrbState). z.handlers) s ∙ m.1)) (kept_before (held_of (part_of h p) u) x.event now)
+            (q.1 ∙ ap (λ w. Quiet record { 0 = w }) (eqb-true q.0.0 u (ap (is_of u) (sym q.1) ∙ e)), ap (λ (z : UrbState). z.queued) s ∙ m.0, ap (λ (z : UrbState). z.handlers) s ∙ m.1)) (kept_before (held_of (part_of h p) u) x.event now)

@@ -1,13 +1,16 @@
 -- What the laws of the machine say of every legal history.
-use Rattle.std.specs.Prelude.{◌≡◌, ◌≢◌, ℕ, zero, suc, ◌+◌, Bool, false, ◌&&◌, cond, ◌==◌, if◌then◌else◌, List, [], ◌∷◌, ◌++◌, fold}
+use Rattle.std.specs.Prelude.{◌≡◌, ◌≢◌, ℕ, zero, suc, ◌+◌, Bool, true, false, ◌&&◌, cond, ◌==◌, if◌then◌else◌, List, [], ◌∷◌, ◌++◌, fold}
 use Rattle.usb_machine.specs.declared.event.Event.{Event}
-use Rattle.usb_machine.specs.declared.event.Event.TheVariants.{Submit, Link, Take, Give, Rest, End}
+use Rattle.usb_machine.specs.declared.event.Event.TheVariants.{Submit, Link, Take, Mark, Finish, Give, Rest, End, Reject, Withdraw, Quiet, Claim}
 use Rattle.usb_machine.specs.declared.event.Answer.{Answer}
-use Rattle.usb_machine.specs.declared.event.Answer.TheVariants.{Urb}
+use Rattle.usb_machine.specs.declared.event.Answer.TheVariants.{Urb, Code as Status}
+use Rattle.usb_types.specs.declared.errno.Code.{Code}
+use Rattle.usb_types.specs.declared.errno.Code.TheVariants.{Fault}
+use Rattle.usb_types.specs.Codes.{errno_of}
 use Rattle.usb_machine.specs.declared.entry.Entry.{Entry}
-use Rattle.usb_machine.specs.State.{accepted}
+use Rattle.usb_machine.specs.State.{accepted, unlinks, finishes}
 use Rattle.usb_machine.specs.History.{Machine, home_of, state_of, line_of, pending_of}
-use Rattle.usb_machine.specs.Parts.{part_of, owes, keeps}
+use Rattle.usb_machine.specs.Parts.{part_of, owes, holds_any, held_of, keeps}
 use Rattle.usb_machine.specs.Legal.{times}
 
 -- the sum of f over the numbers below n
@@ -69,10 +72,10 @@ stirs u (Rest v n) a = v.0 == u
 stirs u (End v) a = v.0 == u
 stirs u _ a = false
 
--- the entries xs of h are those after the Quiet from which pass p keeps u
+-- pass p keeps u, and the entries xs of h are those after the Quiet from which it does
 pub data Since (p u : ℕ) : List Entry → List Entry → Type 0 where
-  begins : (h : List Entry) (x : Entry) → keeps (part_of h p) u ≡ false → Since p u (h ++ x ∷ []) []
-  goes_on : (h xs : List Entry) (x : Entry) → Since p u h xs → Since p u (h ++ x ∷ []) (xs ++ x ∷ [])
+  begins : (h : List Entry) (x : Entry) → x.pass ≡ p → x.event ≡ Quiet record { 0 = u } → keeps (part_of h p) u ≡ false → keeps (part_of (h ++ x ∷ []) p) u ≡ true → Since p u (h ++ x ∷ []) []
+  goes_on : (h xs : List Entry) (x : Entry) → Since p u h xs → keeps (part_of (h ++ x ∷ []) p) u ≡ true → Since p u (h ++ x ∷ []) (xs ++ x ∷ [])
 
 abbrev pub NoneStirs : ℕ → List Entry → Type 0
 NoneStirs u [] = Unit {0}
@@ -85,3 +88,86 @@ pub record IsKept (h : List Entry) (p u : ℕ) : Type 0 where
   pub unstirred : NoneStirs u since
   pub queued : (state_of h u).queued ≡ false
   pub handlers : (state_of h u).handlers ≡ 0
+
+-- the status that an entry settles for u: that of a Mark which answered EINPROGRESS, or of a Finish which answered true
+abbrev pub settling : ℕ → Event → Answer → List Code
+settling u (Mark v why) a = if (v.0 == u) && unlinks a then Fault (errno_of why) ∷ [] else []
+settling u (Finish v code) a = if (v.0 == u) && finishes a then code ∷ [] else []
+settling u _ a = []
+
+abbrev pub settled : ℕ → List Entry → List Code
+settled u [] = []
+settled u (x ∷ xs) = settling u x.event x.answer ++ settled u xs
+
+abbrev pub is_give : ℕ → Event → Bool
+is_give u (Give v) = v.0 == u
+is_give u _ = false
+
+abbrev pub NoneGives : ℕ → List Entry → Type 0
+NoneGives u [] = Unit {0}
+NoneGives u (x ∷ xs) = (is_give u x.event ≡ false) × NoneGives u xs
+
+-- a history with an episode of u: an accepted Submit, what stands before the next Give of u, and that Give
+pub record HasEpisode (h : List Entry) (u number : ℕ) (within : List Entry) (give : Entry) : Type 0 where
+  pub before : List Entry
+  pub submit : Entry
+  pub behind : List Entry
+  pub parts : h ≡ before ++ submit ∷ (within ++ give ∷ behind)
+  pub submits : submit.event ≡ Submit record { 0 = u } number
+  pub accepts : accepted submit.answer ≡ true
+  pub none_gives : NoneGives u within
+  pub gives : give.event ≡ Give record { 0 = u }
+
+-- what is answered is the status of the only entry that settled one
+pub record HasOneStatus (u : ℕ) (within : List Entry) (answer : Answer) : Type 0 where
+  pub status : Code
+  pub answers : answer ≡ Status status
+  pub only : settled u within ≡ status ∷ []
+
+-- whether an event rests a transfer with u, or claims it
+abbrev pub is_rest_or_claim : ℕ → Event → Bool
+is_rest_or_claim u (Rest v n) = v.0 == u
+is_rest_or_claim u (Claim v) = v.0 == u
+is_rest_or_claim u _ = false
+
+abbrev pub NoneRestsOrClaims : ℕ → List Entry → Type 0
+NoneRestsOrClaims u [] = Unit {0}
+NoneRestsOrClaims u (x ∷ xs) = (is_rest_or_claim u x.event ≡ false) × NoneRestsOrClaims u xs
+
+-- the last Rest of u in the history is of this number, and no Claim of u follows it
+pub record EndsWithRest (h : List Entry) (u number : ℕ) : Type 0 where
+  pub before : List Entry
+  pub rest : Entry
+  pub behind : List Entry
+  pub parts : h ≡ before ++ rest ∷ behind
+  pub rests : rest.event ≡ Rest record { 0 = u } number
+  pub none : NoneRestsOrClaims u behind
+
+-- u is held after these entries, and after each more of those that follow them
+abbrev pub IsHeldThrough : ℕ → List Entry → List Entry → Type 0
+IsHeldThrough u m [] = holds_any (held_of m u) ≡ true
+IsHeldThrough u m (x ∷ xs) = (holds_any (held_of m u) ≡ true) × IsHeldThrough u (m ++ x ∷ []) xs
+
+-- there is a Quiet of u before which u is held, and after which it is held all the time
+pub record IsHeldSinceQuiet (m : List Entry) (u : ℕ) : Type 0 where
+  pub before : List Entry
+  pub quiet : Entry
+  pub behind : List Entry
+  pub parts : m ≡ before ++ quiet ∷ behind
+  pub sees : quiet.event ≡ Quiet record { 0 = u }
+  pub held : IsHeldThrough u before (quiet ∷ behind)
+
+-- how often u was rejected, and how often a reject was withdrawn
+abbrev pub rejects_after : ℕ → ℕ → Event → ℕ
+rejects_after u n (Reject v) = if (v.0 == u) then n + 1 else n
+rejects_after u n _ = n
+
+abbrev pub withdraws_after : ℕ → ℕ → Event → ℕ
+withdraws_after u n (Withdraw v) = if (v.0 == u) then n + 1 else n
+withdraws_after u n _ = n
+
+abbrev pub rejects : List Entry → ℕ → ℕ
+rejects m u = fold (λ n x. rejects_after u n x.event) 0 m
+
+abbrev pub withdraws : List Entry → ℕ → ℕ
+withdraws m u = fold (λ n x. withdraws_after u n x.event) 0 m

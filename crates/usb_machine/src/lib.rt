@@ -4,6 +4,8 @@
 mod change;
 mod entry;
 mod event;
+mod fault;
+pub mod laws;
 mod layout;
 mod plain;
 mod queues;
@@ -12,6 +14,7 @@ mod transfer;
 
 pub use entry::{Entry, HUB, SERVER};
 pub use event::{Answer, Event};
+pub use fault::shape_fault;
 pub use layout::{EndKind, Layout, Shape};
 pub use plain::Plain;
 pub use state::{Flags, Mark, UrbState};
