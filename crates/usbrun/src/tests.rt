@@ -16,6 +16,7 @@ const HEAD: &str = "scene 1\ndevice d raw\nep 81 bulk 64 0\nanswer 81 p:01020304
 const GIVEN: &str = "given\na 0 8 rest 0102030405060708\n";
 
 // The ends of one call: the numbers of the reads and of the writes that fail, and the sink's room.
+#[derive(Clone, Copy)]
 struct Ends<'a> {
     reads: &'a [u32],
     writes: &'a [u32],
@@ -70,6 +71,31 @@ fn a_scene_prints_its_calls_and_what_was_given_back(rt: HostRuntime) -> Result<(
         assert_eq!(rt; status, Status::Done, "{calls}");
         let wanted = joined(alloc, &[threads, given])?;
         assert_eq!(rt; text.as_bytes(), wanted.as_slice(), "{calls}");
+    }
+    Ok(())
+}
+
+#[test]
+fn a_scene_may_have_less_or_more_than_the_first(rt: HostRuntime) -> Result<(), Fail> {
+    let alloc = rt.alloc();
+    let rows = [
+        ("scene 1", ""),
+        ("scene 1\n", ""),
+        ("# no device\r\nscene\t1\r\nthread t\r\nserve\r\n", "thread t\n"),
+        ("scene 1\ndevice d raw\nthread hub", "thread hub\n"),
+        (
+            "scene 1\ndevice d raw\nep 81 bulk 2 0\nanswer 81 p:0102 nak\nanswer 81 p:03\nurb a d 81 len 8\nthread t\nsubmit a\nserve\nserve",
+            "thread t\n8 submit a 0\ngiven\na 0 3 rest 010203\n",
+        ),
+        (
+            "scene 1\ndevice d raw\nep 81 bulk 2 0\nurb a d 81\nthread hub\nsubmit a\nserve",
+            "thread hub\n6 submit a 0\n",
+        ),
+    ];
+    for (scene, wanted) in rows {
+        let (status, text) = ended(&rt, alloc, &["serial"], joined(alloc, &[scene])?, &GOOD)?;
+        assert_eq!(rt; status, Status::Done, "{scene}");
+        assert_eq!(rt; text.as_str(), wanted, "{scene}");
     }
     Ok(())
 }
