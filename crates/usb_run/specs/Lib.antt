@@ -14,3 +14,4 @@ pub mod Read
 pub mod Short
 pub mod Scripted
 pub mod Shows
+pub mod SceneLaws
