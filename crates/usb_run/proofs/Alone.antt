@@ -13,25 +13,25 @@ use Rattle.usb_xfer.specs.Moved.{moved_state}
 use Rattle.usb_run.specs.declared.scene.Scene.{Scene}
 use Rattle.usb_run.specs.declared.scene.Call.{Call}
 use Rattle.usb_run.specs.declared.scene.CallKind.TheVariants as call
-use Rattle.usb_run.specs.declared.made.Made.{Made}
-use Rattle.usb_run.specs.declared.made.Told.TheVariants as told
+use Rattle.usb_run.specs.declared.made.CallMade.{CallMade}
+use Rattle.usb_run.specs.declared.made.CallAnswer.TheVariants as told
 use Rattle.usb_run.specs.Prepared.{max_of}
-use Rattle.usb_run.specs.Line.{Far, taken, had_after, GoesTo, IsServed, round_of, given_back, waits, GivesBack, none, one, IsIdle, nothing, waiting, with_call, with_serve, IsLine, start, submit, serve, IsLineRun}
+use Rattle.usb_run.specs.Line.{Progress, taken, had_after, GoesTo, IsServed, giveback_of, given_back, waits, GivesBack, none, one, IsIdle, nothing, waiting, with_call, with_serve, IsLine, start, submit, serve, IsLineRun}
 use Rattle.usb_run.proofs.Lines.{gives_made, idle_made}
 use Rattle.usb_run.proofs.Calls.{placed}
 
 -- of two numbers of replies after which a transfer does not go on, neither is the smaller
-same_goes : (s : Scene) (u : ℕ) (t : Transfer) (f : Far) (n k : ℕ) (c d : Step) → c ≢ More → d ≢ More → GoesTo s u t f n c → GoesTo s u t f k d → (n ≡ k) × (c ≡ d)
+same_goes : (s : Scene) (u : ℕ) (t : Transfer) (f : Progress) (n k : ℕ) (c d : Step) → c ≢ More → d ≢ More → GoesTo s u t f n c → GoesTo s u t f k d → (n ≡ k) × (c ≡ d)
 same_goes s u t f n k c d p q g h = dite (ℕ_discrete n k)
     (λ e. (e, sym g.state ∙ (ap (λ (i : ℕ). moved_state (max_of s u) t (had_after s f i)) e ∙ h.state)))
     (λ ne. dite (dec_lt n k) (λ l. absurd (p (sym g.state ∙ h.before n g.some l))) (λ l. let m : k < n = omega arith in absurd (q (sym h.state ∙ g.before k h.some m))))
 
-same_served : (s : Scene) (f : Far) (u v : ℕ) (t r : Transfer) → IsServed s f u t → IsServed s f v r → (u ≡ v) × (t ≡ r)
+same_served : (s : Scene) (f : Progress) (u v : ℕ) (t r : Transfer) → IsServed s f u t → IsServed s f v r → (u ≡ v) × (t ≡ r)
 same_served s f u v t r a b = let e = sym a.first ∙ b.first in let same : u ≡ v = cc in
     let x = sym a.transfer ∙ (ap (sent_of f.history) same ∙ b.transfer) in let y : t ≡ r = cc in (same, y)
 
 -- of one served transfer
-both_go : (s : Scene) (f : Far) (u v : ℕ) (t r : Transfer) (n k : ℕ) (c d : Step) → c ≢ More → d ≢ More → (u ≡ v) × (t ≡ r) → GoesTo s u t f n c → GoesTo s v r f k d → (n ≡ k) × (c ≡ d)
+both_go : (s : Scene) (f : Progress) (u v : ℕ) (t r : Transfer) (n k : ℕ) (c d : Step) → c ≢ More → d ≢ More → (u ≡ v) × (t ≡ r) → GoesTo s u t f n c → GoesTo s v r f k d → (n ≡ k) × (c ≡ d)
 both_go s f u v t r n k c d p q e g h = same_goes s u t f n k c d p q g (subst (λ (v : ℕ). GoesTo s v t f k d) (sym e.0) (subst (λ (r : Transfer). GoesTo s v r f k d) (sym e.1) h))
 
 ended : (c : Code) → Ended c ≢ More
@@ -41,23 +41,23 @@ waited : Waiting ≢ More
 waited e = cc
 
 -- a turn that gives an URB back
-data One (s : Scene) (m : Far) : Far → Type 0 where
-  step : (u : ℕ) (t : Transfer) (n : ℕ) (code : Code) → IsServed s (taken s m) u t → GoesTo s u t (taken s m) n (Ended code) → One s m (given_back s (taken s m) (round_of s (taken s m) u t n code))
+data One (s : Scene) (m : Progress) : Progress → Type 0 where
+  step : (u : ℕ) (t : Transfer) (n : ℕ) (code : Code) → IsServed s (taken s m) u t → GoesTo s u t (taken s m) n (Ended code) → One s m (given_back s (taken s m) (giveback_of s (taken s m) u t n code))
 
-same_one : (s : Scene) (m k l : Far) → One s m k → One s m l → k ≡ l
+same_one : (s : Scene) (m k l : Progress) → One s m k → One s m l → k ≡ l
 same_one s m _ _ (step u t n c a g) (step v r k d b h) =
     let e = same_served s (taken s m) u v t r a b in
     let w = both_go s (taken s m) u v t r n k (Ended c) (Ended d) (ended c) (ended d) e g h in
     let x = w.1 in let code : c ≡ d = cc in
-    (λ i. given_back s (taken s m) (round_of s (taken s m) (e.0 i) (e.1 i) (w.0 i) (code i)))
+    (λ i. given_back s (taken s m) (giveback_of s (taken s m) (e.0 i) (e.1 i) (w.0 i) (code i)))
 
-not_idle : (s : Scene) (m k e : Far) → One s m k → IsIdle s m e → ⊥
+not_idle : (s : Scene) (m k e : Progress) → One s m k → IsIdle s m e → ⊥
 not_idle s m _ _ (step u t n c a g) (nothing p) = let x = sym a.first ∙ p in cc
 not_idle s m _ _ (step u t n c a g) (waiting v r k b h) =
     let e = same_served s (taken s m) u v t r a b in
     let w = both_go s (taken s m) u v t r n k (Ended c) Waiting (ended c) waited e g h in let x = w.1 in cc
 
-same_idle : (s : Scene) (m e d : Far) → IsIdle s m e → IsIdle s m d → e ≡ d
+same_idle : (s : Scene) (m e d : Progress) → IsIdle s m e → IsIdle s m d → e ≡ d
 same_idle s m _ _ (nothing p) (nothing q) = refl
 same_idle s m _ _ (nothing p) (waiting v r k b h) = let x = sym b.first ∙ p in cc
 same_idle s m _ _ (waiting u t n a g) (nothing q) = let x = sym a.first ∙ q in cc
@@ -67,15 +67,15 @@ same_idle s m _ _ (waiting u t n a g) (waiting v r k b h) =
     (λ i. waits s (taken s m) (w.0 i))
 
 -- turns up to the one that gives nothing back, from the first on
-data ToIdle (s : Scene) : Far → Far → Type 0 where
-  ends : (f e : Far) → IsIdle s f e → ToIdle s f e
-  gives : (f k e : Far) → One s f k → ToIdle s k e → ToIdle s f e
+data ToIdle (s : Scene) : Progress → Progress → Type 0 where
+  ends : (f e : Progress) → IsIdle s f e → ToIdle s f e
+  gives : (f k e : Progress) → One s f k → ToIdle s k e → ToIdle s f e
 
-to_idle : (s : Scene) (f m e : Far) → GivesBack s f m → ToIdle s m e → ToIdle s f e
+to_idle : (s : Scene) (f m e : Progress) → GivesBack s f m → ToIdle s m e → ToIdle s f e
 to_idle s f _ e none i = i
 to_idle s f _ e (one m u t n c g at go) i = to_idle s f m e g (gives m _ e (step u t n c at go) i)
 
-same_end : (s : Scene) (f e d : Far) → ToIdle s f e → ToIdle s f d → e ≡ d
+same_end : (s : Scene) (f e d : Progress) → ToIdle s f e → ToIdle s f d → e ≡ d
 same_end s _ _ d (ends f e i) (ends _ _ j) = same_idle s f e d i j
 same_end s _ _ _ (ends f e i) (gives _ k d o r) = absurd (not_idle s f k e o i)
 same_end s _ _ _ (gives f k e o r) (ends _ d j) = absurd (not_idle s f k d o j)
@@ -89,13 +89,13 @@ snoc_same (a ∷ []) [] x y e = cc
 snoc_same (a ∷ c ∷ xs) [] x y e = cc
 snoc_same (a ∷ xs) (b ∷ ys) x y e = let h : a ≡ b = cc in let t : xs ++ x ∷ [] ≡ ys ++ y ∷ [] = cc in let r = snoc_same xs ys x y t in ((λ i. h i ∷ r.0 i), r.1)
 
-abbrev calls : Far → List (ℕ × Call)
+abbrev calls : Progress → List (ℕ × Call)
 calls f = map placed f.made
 
-last_call : (f g : Far) (m n : Made) → calls (with_serve f m) ≡ calls (with_serve g n) → (calls f ≡ calls g) × (placed m ≡ placed n)
+last_call : (f g : Progress) (m n : CallMade) → calls (with_serve f m) ≡ calls (with_serve g n) → (calls f ≡ calls g) × (placed m ≡ placed n)
 last_call f g m n e = snoc_same (calls f) (calls g) (placed m) (placed n) (sym (map-append placed f.made (m ∷ [])) ∙ (e ∙ map-append placed g.made (n ∷ [])))
 
-not_first : (f : Far) (m : Made) → [] ≡ calls (with_serve f m) → ⊥
+not_first : (f : Progress) (m : CallMade) → [] ≡ calls (with_serve f m) → ⊥
 not_first f m e = go (calls f) (e ∙ map-append placed f.made (m ∷ []))
   where
     go : (xs : List (ℕ × Call)) → [] ≡ xs ++ placed m ∷ [] → ⊥
@@ -108,7 +108,7 @@ same_urb u v e = cc
 apart : (u : ℕ) → call.Submit u ≡ call.Serve → ⊥
 apart u e = cc
 
-pub same_line : (s : Scene) (f g : Far) → IsLine s f → IsLine s g → calls f ≡ calls g → f ≡ g
+pub same_line : (s : Scene) (f g : Progress) → IsLine s f → IsLine s g → calls f ≡ calls g → f ≡ g
 same_line s _ _ start start e = refl
 same_line s _ _ start (submit g j k v q w) e = absurd (not_first g _ e)
 same_line s _ _ start (serve g n d j k q r i) e = absurd (not_first d _ e)
@@ -129,5 +129,5 @@ same_line s _ _ (serve f m b a l p h j) (serve g n d o k q r i) e =
     let last = same_end s f b d (to_idle s f m b h (ends m b j)) (subst (λ z. ToIdle s z d) (sym same) (to_idle s g n d r (ends n d i))) in
     (λ i. with_serve (last i) record { thread = thread i; call = record { line = line i; kind = call.Serve }; answer = told.Nothing })
 
-pub one_line : (s : Scene) (f g : Far) → IsLineRun s f → IsLineRun s g → f ≡ g
+pub one_line : (s : Scene) (f g : Progress) → IsLineRun s f → IsLineRun s g → f ≡ g
 one_line s f g p q = same_line s f g p.in_line q.in_line (p.all ∙ sym q.all)

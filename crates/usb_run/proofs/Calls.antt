@@ -7,7 +7,7 @@ use Rattle.std.proofs.lemmas.List.Elements.{All-nil, All-cons, All-head, All-tai
 use Rattle.usb_run.specs.declared.scene.Scene.{Scene}
 use Rattle.usb_run.specs.declared.scene.SceneThread.{SceneThread}
 use Rattle.usb_run.specs.declared.scene.Call.{Call}
-use Rattle.usb_run.specs.declared.made.Made.{Made}
+use Rattle.usb_run.specs.declared.made.CallMade.{CallMade}
 use Rattle.usb_run.specs.Prepared.{calls_from, calls_of}
 use Rattle.usb_run.specs.Run.{made_by}
 
@@ -54,23 +54,23 @@ thread_calls i (suc k) n (t ∷ threads) thread e at =
     ∙ thread_calls (i + 1) k n threads thread next at)
 
 -- a call with its thread's number
-abbrev pub placed : Made → ℕ × Call
+abbrev pub placed : CallMade → ℕ × Call
 placed m = (m.thread, m.call)
 
-made_calls : (k : ℕ) (made : List Made) → map (λ m. m.call) (made_by k made) ≡ only_calls (of_thread k (map placed made))
+made_calls : (k : ℕ) (made : List CallMade) → map (λ m. m.call) (made_by k made) ≡ only_calls (of_thread k (map placed made))
 made_calls k [] = refl
-made_calls k (m ∷ made) = elim (eqb m.thread k) as (λ b. map (λ (m : Made). m.call) (cond b (m ∷ made_by k made) (made_by k made)) ≡ only_calls (cond b (placed m ∷ of_thread k (map placed made)) (of_thread k (map placed made))))
+made_calls k (m ∷ made) = elim (eqb m.thread k) as (λ b. map (λ (m : CallMade). m.call) (cond b (m ∷ made_by k made) (made_by k made)) ≡ only_calls (cond b (placed m ∷ of_thread k (map placed made)) (of_thread k (map placed made))))
     [ true ↦ ap (λ l. m.call ∷ l) (made_calls k made) | false ↦ made_calls k made ]
 
 -- where all calls were made in line order, each thread made its own
-pub calls_made : (s : Scene) (made : List Made) → map placed made ≡ calls_of s → (i : ℕ) (thread : SceneThread) → slice_get s.threads i ≡ Some thread → map (λ m. m.call) (made_by i made) ≡ thread.calls
+pub calls_made : (s : Scene) (made : List CallMade) → map placed made ≡ calls_of s → (i : ℕ) (thread : SceneThread) → slice_get s.threads i ≡ Some thread → map (λ m. m.call) (made_by i made) ≡ thread.calls
 calls_made s made all i thread at = made_calls i made ∙ (ap (λ l. only_calls (of_thread i l)) all ∙ thread_calls 0 i i s.threads thread (omega arith) at)
 
 -- each call is one of a thread of the scene
 abbrev pub IsThere : ℕ → ℕ × Call → Type 0
 IsThere n c = c.0 < n
 
-abbrev pub IsMadeThere : Scene → Made → Type 0
+abbrev pub IsMadeThere : Scene → CallMade → Type 0
 IsMadeThere s m = m.thread < length s.threads
 
 number_there : (i n : ℕ) → i < n → (calls : List Call) → All (IsThere n) (numbered i calls)
@@ -82,11 +82,11 @@ calls_there i n [] e = All-nil (IsThere n)
 calls_there i n (t ∷ threads) e =
     All-append (IsThere n) (numbered i t.calls) (calls_from (i + 1) threads) (number_there i n (omega arith) t.calls) (calls_there (i + 1) n threads (omega arith))
 
-placed_there : (s : Scene) (made : List Made) → All (IsThere (length s.threads)) (map placed made) → All (IsMadeThere s) made
+placed_there : (s : Scene) (made : List CallMade) → All (IsThere (length s.threads)) (map placed made) → All (IsMadeThere s) made
 placed_there s [] a = All-nil (IsMadeThere s)
 placed_there s (m ∷ made) a = All-cons (IsMadeThere s) m made (All-head (IsThere (length s.threads)) (placed m) (map placed made) a)
     (placed_there s made (All-tail (IsThere (length s.threads)) (placed m) (map placed made) a))
 
 -- where all calls were made in line order, each was made by a thread of the scene
-pub made_there : (s : Scene) (made : List Made) → map placed made ≡ calls_of s → All (IsMadeThere s) made
+pub made_there : (s : Scene) (made : List CallMade) → map placed made ≡ calls_of s → All (IsMadeThere s) made
 made_there s made all = placed_there s made (subst (All (IsThere (length s.threads))) (sym all) (calls_there 0 (length s.threads) s.threads (omega arith)))

@@ -1,4 +1,4 @@
--- The replies of a scripted device are a stretch of its script.
+-- The replies of a scripted device are a replies_from of its script.
 use Rattle.std.proofs.Common.{ℕ, ◌≡◌, ◌+◌, ◌<◌, List, [], ◌∷◌, ◌++◌, length, take, refl, sym, ap, ◌∙◌, subst, arith, add-zero, length-append}
 use Rattle.usb_machine.specs.declared.transfer.Transfer.{Transfer}
 use Rattle.usb_xfer.specs.declared.device.Reply.{Reply}
@@ -9,20 +9,20 @@ use Rattle.usb_xfer.specs.On.{Gave, nothing, one_more, Stops}
 use Rattle.usb_run.specs.declared.scene.Scene.{Scene}
 use Rattle.usb_run.specs.declared.scene.Item.{Item}
 use Rattle.usb_run.specs.declared.device.Scripted.{Scripted}
-use Rattle.usb_run.specs.Script.{reply_at, stretch}
+use Rattle.usb_run.specs.Script.{reply_at, replies_from}
 use Rattle.usb_run.specs.Prepared.{max_of, script_of}
 use Rattle.usb_run.specs.Scripted.{IsAfter, Replied}
-use Rattle.usb_run.specs.Line.{Far, served_end, spent, GoesTo}
-use Rattle.usb_run.proofs.Stretches.{stretch-append, take-stretch}
+use Rattle.usb_run.specs.Line.{Progress, served_end, replies_used, GoesTo}
+use Rattle.usb_run.proofs.Stretches.{replies_from-append, take-replies_from}
 
 -- the device keeps its address
 pub same_address : (a : ℕ) (d e : Scripted) (rs : List Reply) → Gave Replied a d rs e → e.address ≡ d.address
 same_address a d _ _ nothing = refl
 same_address a d _ _ (one_more rs mid r e g one) = one.address_kept ∙ same_address a d mid rs g
 
--- a chain of replies is the stretch that comes next
+-- a chain of replies is the replies_from that comes next
 pub chain : (items : List Item) (a : ℕ) (d e : Scripted) (rs : List Reply) (m : ℕ) → Gave Replied a d rs e → a ≡ d.address → IsAfter d items m
-    → (rs ≡ stretch items m (length rs)) × IsAfter e items (m + length rs)
+    → (rs ≡ replies_from items m (length rs)) × IsAfter e items (m + length rs)
 chain items a d _ _ m nothing here after = (refl, subst (IsAfter d items) (sym (add-zero m)) after)
 chain items a d _ _ m (one_more rs mid r e g one) here after =
     let old = chain items a d mid rs m g here after in
@@ -30,18 +30,18 @@ chain items a d _ _ m (one_more rs mid r e g one) here after =
     let n : length rs + 1 ≡ length (rs ++ r ∷ []) = sym (length-append rs (r ∷ [])) in
     let reply : r ≡ reply_at items (m + length rs) = now.0 ∙ (old.1 0 ∙ ap (reply_at items) (add-zero (m + length rs))) in
     let long : length (rs ++ r ∷ []) ≡ length rs + 1 = sym n in (
-      (λ i. old.0 i ++ reply i ∷ []) ∙ (sym (stretch-append items m (length rs) 1) ∙ ap (stretch items m) n),
+      (λ i. old.0 i ++ reply i ∷ []) ∙ (sym (replies_from-append items m (length rs) 1) ∙ ap (replies_from items m) n),
       λ k. let e : m + length rs + (k + 1) ≡ m + length (rs ++ r ∷ []) + k = omega arith in now.1 k ∙ (old.1 (k + 1) ∙ ap (reply_at items) e),
     )
 
 -- what stops after these replies goes so far
-pub goes : (s : Scene) (u : ℕ) (f : Far) (t now : Transfer) (more : List Reply) (step : Step) → more ≡ stretch (script_of s served_end) (spent f) (length more) → 0 < length more
+pub goes : (s : Scene) (u : ℕ) (f : Progress) (t now : Transfer) (more : List Reply) (step : Step) → more ≡ replies_from (script_of s served_end) (replies_used f) (length more) → 0 < length more
     → Stops (max_of s u) t f.so_far more now step → GoesTo s u t f (length more) step
 goes s u f t now more step is some st =
     let items = script_of s served_end in
     record {
       some = some;
-      before = λ k p q. subst (λ l. moved_state (max_of s u) t (f.so_far ++ l) ≡ More) (ap (take k) is ∙ take-stretch items (spent f) k (length more) (omega arith)) (st.each k p q);
+      before = λ k p q. subst (λ l. moved_state (max_of s u) t (f.so_far ++ l) ≡ More) (ap (take k) is ∙ take-replies_from items (replies_used f) k (length more) (omega arith)) (st.each k p q);
       state = ap (λ l. moved_state (max_of s u) t (f.so_far ++ l)) (sym is) ∙ sym st.state;
       whole = subst (λ l. IsWhole (max_of s u) t (f.so_far ++ l)) is st.whole;
     }

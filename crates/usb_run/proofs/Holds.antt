@@ -19,10 +19,10 @@ use Rattle.usb_machine.specs.Parts.{part_of}
 use Rattle.usb_machine.specs.Legal.{IsLegal}
 use Rattle.usb_run.specs.declared.scene.Scene.{Scene}
 use Rattle.usb_run.specs.declared.scene.CallKind.TheVariants as call
-use Rattle.usb_run.specs.declared.made.Made.{Made}
-use Rattle.usb_run.specs.declared.made.Told.TheVariants as told
+use Rattle.usb_run.specs.declared.made.CallMade.{CallMade}
+use Rattle.usb_run.specs.declared.made.CallAnswer.TheVariants as told
 use Rattle.usb_run.specs.Prepared.{pass_of, machine_of}
-use Rattle.usb_run.specs.Run.{Round, call_entries, round_entries, episode_of, is_aside, made_by}
+use Rattle.usb_run.specs.Run.{Giveback, call_entries, giveback_entries, episode_of, is_aside, made_by}
 use Rattle.usb_run.specs.WellFormed.{IsWellFormed}
 use Rattle.usb_run.specs.Line.{served_end, takes}
 use Rattle.usb_run.proofs.MayFollow.{finish, finished, IsReady}
@@ -31,10 +31,10 @@ use Rattle.usb_run.proofs.Rounds.{round_legal}
 use Rattle.usb_run.proofs.Submits.{submitted, submit_legal}
 use Rattle.usb_run.proofs.Passes.{IsOf, grows, stays, not_server, other_threads, takes_pass, entries_pass}
 
-pub record Holds (s : Scene) (h : List Entry) (made : List Made) (rounds : List Round) : Type 0 where
+pub record Holds (s : Scene) (h : List Entry) (made : List CallMade) (rounds : List Giveback) : Type 0 where
   pub legal : IsLegal (machine_of s) h
   pub threads : (i : ℕ) → i < length s.threads → part_of h (pass_of s i) ≡ flat_map (call_entries s) (made_by i made)
-  pub server : filter (λ x. not (is_aside x.event x.answer)) (part_of h SERVER) ≡ flat_map (round_entries s) rounds
+  pub server : filter (λ x. not (is_aside x.event x.answer)) (part_of h SERVER) ≡ flat_map (giveback_entries s) rounds
   pub others : (p : ℕ) → p ≢ SERVER → ((i : ℕ) → i < length s.threads → p ≢ pass_of s i) → part_of h p ≡ []
   pub gives : episodes_of h ≡ map episode_of rounds
 
@@ -54,7 +54,7 @@ abbrev served : List Entry → List Entry
 served m = filter (λ x. not (is_aside x.event x.answer)) m
 
 -- entries of a pass that is no thread's
-module _ (s : Scene) (h xs : List Entry) (made : List Made) (q : ℕ) (is : IsOf q xs) where
+module _ (s : Scene) (h xs : List Entry) (made : List CallMade) (q : ℕ) (is : IsOf q xs) where
   threads_stay : ((i : ℕ) → q ≢ pass_of s i) → ((i : ℕ) → i < length s.threads → part_of h (pass_of s i) ≡ flat_map (call_entries s) (made_by i made))
       → (i : ℕ) → i < length s.threads → part_of (h ++ xs) (pass_of s i) ≡ flat_map (call_entries s) (made_by i made)
   threads_stay off old i l = stays q h xs is (pass_of s i) (off i) ∙ old i l
@@ -67,7 +67,7 @@ takes_end_none : (b : List Entry) (us : List ℕ) → episodes_after b (takes us
 takes_end_none b [] = refl
 takes_end_none b (u ∷ us) = takes_end_none (b ++ took u ∷ []) us
 
-pub takes_hold : (s : Scene) (h : List Entry) (made : List Made) (rounds : List Round) → Holds s h made rounds → Holds s (h ++ takes (line_of (machine_of s) h served_end)) made rounds
+pub takes_hold : (s : Scene) (h : List Entry) (made : List CallMade) (rounds : List Giveback) → Holds s h made rounds → Holds s (h ++ takes (line_of (machine_of s) h served_end)) made rounds
 takes_hold s h made rounds old = let us = line_of (machine_of s) h served_end in record {
   legal = takes_legal s us h refl old.legal;
   threads = threads_stay s h (takes us) made SERVER (takes_pass us) (λ i e. not_server s i (sym e)) old.threads;
@@ -78,22 +78,22 @@ takes_hold s h made rounds old = let us = line_of (machine_of s) h served_end in
   gives = no_episode h (takes us) (takes_end_none h us) ∙ old.gives;
 }
 
-module _ (s : Scene) (h : List Entry) (r : Round) where
-  round_pass : IsOf SERVER (round_entries s r)
+module _ (s : Scene) (h : List Entry) (r : Giveback) where
+  round_pass : IsOf SERVER (giveback_entries s r)
   round_pass = (refl, (refl, (refl, (refl, tt))))
 
   sent_finished : sent_of (finished s h r) r.urb ≡ sent_of h r.urb
   sent_finished = fold-append (λ t y. sent_after r.urb t y.event y.answer y.carried) None h (finish s h r ∷ [])
 
-  pub round_holds : IsReady s h r → (made : List Made) (rounds : List Round) → sent_of h r.urb ≡ Some r.sent → Holds s h made rounds → Holds s (h ++ round_entries s r) made (rounds ++ r ∷ [])
+  pub round_holds : IsReady s h r → (made : List CallMade) (rounds : List Giveback) → sent_of h r.urb ≡ Some r.sent → Holds s h made rounds → Holds s (h ++ giveback_entries s r) made (rounds ++ r ∷ [])
   round_holds ready made rounds sent old = record {
     legal = round_legal s h r ready old.legal;
-    threads = threads_stay s h (round_entries s r) made SERVER round_pass (λ i e. not_server s i (sym e)) old.threads;
-    server = ap served (grows SERVER h (round_entries s r) round_pass)
-        ∙ (filter-append (λ x. not (is_aside x.event x.answer)) (part_of h SERVER) (round_entries s r)
-        ∙ ((λ i. old.server i ++ round_entries s r) ∙ sym (flat_map-append (round_entries s) rounds (r ∷ []))));
-    others = λ p off none. stays SERVER h (round_entries s r) round_pass p (λ e. off (sym e)) ∙ old.others p off none;
-    gives = episodes-append [] h (round_entries s r)
+    threads = threads_stay s h (giveback_entries s r) made SERVER round_pass (λ i e. not_server s i (sym e)) old.threads;
+    server = ap served (grows SERVER h (giveback_entries s r) round_pass)
+        ∙ (filter-append (λ x. not (is_aside x.event x.answer)) (part_of h SERVER) (giveback_entries s r)
+        ∙ ((λ i. old.server i ++ giveback_entries s r) ∙ sym (flat_map-append (giveback_entries s) rounds (r ∷ []))));
+    others = λ p off none. stays SERVER h (giveback_entries s r) round_pass p (λ e. off (sym e)) ∙ old.others p off none;
+    gives = episodes-append [] h (giveback_entries s r)
         ∙ ((λ i. old.gives i ++ (the_episode ((sent_finished ∙ sent) i) ∷ []))
         ∙ sym (map-append episode_of rounds (r ∷ [])));
   }
@@ -102,18 +102,18 @@ module _ (s : Scene) (h : List Entry) (r : Round) where
       the_episode t = record { urb = r.urb; status = Status r.status; transfer = t }
 
 -- a call adds its entries to its thread's part
-module _ (s : Scene) (good : IsWellFormed s) (h : List Entry) (m : Made) (made : List Made) (there : m.thread < length s.threads) where
+module _ (s : Scene) (good : IsWellFormed s) (h : List Entry) (m : CallMade) (made : List CallMade) (there : m.thread < length s.threads) where
   abbrev xs : List Entry
   xs = call_entries s m
 
   call_pass : IsOf (pass_of s m.thread) (call_entries s m)
   call_pass = entries_pass s (pass_of s m.thread) m.call.line m.call.kind m.answer
 
-  abbrev all_calls : List Made → List Entry
+  abbrev all_calls : List CallMade → List Entry
   all_calls ms = flat_map (call_entries s) ms
 
   made_by-push : (i : ℕ) → made_by i (made ++ m ∷ []) ≡ made_by i made ++ cond (eqb m.thread i) (m ∷ []) []
-  made_by-push i = filter-append (λ (m : Made). eqb m.thread i) made (m ∷ [])
+  made_by-push i = filter-append (λ (m : CallMade). eqb m.thread i) made (m ∷ [])
 
   pub call_threads : ((i : ℕ) → i < length s.threads → part_of h (pass_of s i) ≡ flat_map (call_entries s) (made_by i made))
       → (i : ℕ) → i < length s.threads → part_of (h ++ call_entries s m) (pass_of s i) ≡ flat_map (call_entries s) (made_by i (made ++ m ∷ []))
@@ -132,10 +132,10 @@ no_gives s h thread line u (Fault x) = refl
 
 module _ (s : Scene) (good : IsWellFormed s) (h : List Entry) (thread line u : ℕ) (there : thread < length s.threads) (near : u < length s.urbs) where
   -- the call with the gate's answer
-  abbrev pub made_now : Made
+  abbrev pub made_now : CallMade
   made_now = record { thread = thread; call = record { line = line; kind = call.Submit u }; answer = told.Code (refusal (state_of h u)) }
 
-  pub submit_holds : (made : List Made) (rounds : List Round) → Holds s h made rounds → Holds s (h ++ call_entries s made_now) (made ++ made_now ∷ []) rounds
+  pub submit_holds : (made : List CallMade) (rounds : List Giveback) → Holds s h made rounds → Holds s (h ++ call_entries s made_now) (made ++ made_now ∷ []) rounds
   submit_holds made rounds old =
       let q = pass_of s thread in let xs = call_entries s made_now in let is = call_pass s good h made_now made there in record {
         legal = submit_legal s h thread line u good there near old.legal;
@@ -146,7 +146,7 @@ module _ (s : Scene) (good : IsWellFormed s) (h : List Entry) (thread line u : �
       }
 
 -- a serve adds to the list of calls alone
-pub serve_holds : (s : Scene) → IsWellFormed s → (h : List Entry) (m : Made) (made : List Made) (rounds : List Round) → m.thread < length s.threads → call_entries s m ≡ [] → Holds s h made rounds → Holds s h (made ++ m ∷ []) rounds
+pub serve_holds : (s : Scene) → IsWellFormed s → (h : List Entry) (m : CallMade) (made : List CallMade) (rounds : List Giveback) → m.thread < length s.threads → call_entries s m ≡ [] → Holds s h made rounds → Holds s h (made ++ m ∷ []) rounds
 serve_holds s good h m made rounds there none old = record {
   legal = old.legal;
   threads = λ i l. ap (λ l. part_of l (pass_of s i)) (sym (append-nil h) ∙ ap (λ l. h ++ l) (sym none)) ∙ call_threads s good h m made there old.threads i l;

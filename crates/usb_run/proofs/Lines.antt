@@ -18,18 +18,18 @@ use Rattle.usb_xfer.specs.declared.packet.Step.TheVariants.{Ended}
 use Rattle.usb_run.specs.declared.scene.Scene.{Scene}
 use Rattle.usb_run.specs.declared.scene.Item.{Item}
 use Rattle.usb_run.specs.declared.scene.CallKind.TheVariants as call
-use Rattle.usb_run.specs.declared.made.Made.{Made}
-use Rattle.usb_run.specs.declared.made.Told.TheVariants as told
-use Rattle.usb_run.specs.Script.{stretch}
+use Rattle.usb_run.specs.declared.made.CallMade.{CallMade}
+use Rattle.usb_run.specs.declared.made.CallAnswer.TheVariants as told
+use Rattle.usb_run.specs.Script.{replies_from}
 use Rattle.usb_run.specs.Prepared.{machine_of, script_of}
-use Rattle.usb_run.specs.Run.{Round, round_entries, IsRound, IsMade, replies_in, rounds_at, IsRun}
+use Rattle.usb_run.specs.Run.{Giveback, giveback_entries, IsGiveback, IsMade, replies_in, rounds_at, IsRun}
 use Rattle.usb_run.specs.WellFormed.{IsWellFormed}
-use Rattle.usb_run.specs.Line.{served_end, Far, spent, taken, had_after, GoesTo, IsServed, round_of, given_back, waits, GivesBack, none, one, IsIdle, nothing, waiting, IsLine, start, submit, serve, IsLineRun}
+use Rattle.usb_run.specs.Line.{served_end, Progress, replies_used, taken, had_after, GoesTo, IsServed, giveback_of, given_back, waits, GivesBack, none, one, IsIdle, nothing, waiting, IsLine, start, submit, serve, IsLineRun}
 use Rattle.usb_run.proofs.MayFollow.{IsReady}
 use Rattle.usb_run.proofs.Takes.{takes_state}
 use Rattle.usb_run.proofs.Rounds.{round_state, round_other}
 use Rattle.usb_run.proofs.Submits.{submitted, submit_state, submit_other}
-use Rattle.usb_run.proofs.Stretches.{stretch-append, length-stretch}
+use Rattle.usb_run.proofs.Stretches.{replies_from-append, length-replies_from}
 use Rattle.usb_run.proofs.AtHome.{first_at_home}
 use Rattle.usb_run.proofs.SentWindows.{sent_window}
 use Rattle.usb_run.proofs.Holds.{Holds, takes_hold, round_holds, submit_holds, serve_holds}
@@ -40,23 +40,23 @@ abbrev pub IsCalm : List Entry → Type 0
 IsCalm h = (v : ℕ) → (state_of h v).mark ≡ Clear
 
 -- the round's URB is one of the served endpoint
-abbrev pub IsServedRound : Scene → Round → Type 0
+abbrev pub IsServedRound : Scene → Giveback → Type 0
 IsServedRound s r = home_of (machine_of s) r.urb ≡ served_end
 
-pub record Runs (s : Scene) (f : Far) : Type 0 where
+pub record Runs (s : Scene) (f : Progress) : Type 0 where
   pub holds : Holds s f.history f.made f.rounds
   pub calm : IsCalm f.history
-  pub tiles : replies_in f.rounds ++ f.so_far ≡ stretch (script_of s served_end) 0 (spent f)
-  pub moves : All (IsRound s) f.rounds
+  pub tiles : replies_in f.rounds ++ f.so_far ≡ replies_from (script_of s served_end) 0 (replies_used f)
+  pub moves : All (IsGiveback s) f.rounds
   pub homes : All (IsServedRound s) f.rounds
   pub told : All (IsMade s) f.made
 
 -- a serve and its turns make no calls
-pub gives_made : (s : Scene) (f m : Far) → GivesBack s f m → m.made ≡ f.made
+pub gives_made : (s : Scene) (f m : Progress) → GivesBack s f m → m.made ≡ f.made
 gives_made s f _ none = refl
 gives_made s f _ (one m u t n code g at goes) = gives_made s f m g
 
-pub idle_made : (s : Scene) (f e : Far) → IsIdle s f e → e.made ≡ f.made
+pub idle_made : (s : Scene) (f e : Progress) → IsIdle s f e → e.made ≡ f.made
 idle_made s f _ (nothing p) = refl
 idle_made s f _ (waiting u t n at g) = refl
 
@@ -69,13 +69,13 @@ All-last P [] x a = All-head P x [] a
 All-last P (y ∷ xs) x a = All-last P xs x (All-tail P y (xs ++ x ∷ []) a)
 
 -- rounds of an endpoint, where all are of the served one
-rounds_here : (s : Scene) (e : ℕ) (rounds : List Round) → served_end ≡ e → All (IsServedRound s) rounds → rounds_at s e rounds ≡ rounds
+rounds_here : (s : Scene) (e : ℕ) (rounds : List Giveback) → served_end ≡ e → All (IsServedRound s) rounds → rounds_at s e rounds ≡ rounds
 rounds_here s e [] is a = refl
 rounds_here s e (r ∷ rounds) is a =
     ap (λ b. cond b (r ∷ rounds_at s e rounds) (rounds_at s e rounds)) (eq-eqb (home_of (machine_of s) r.urb) e (All-head (IsServedRound s) r rounds a ∙ is))
     ∙ ap (λ l. r ∷ l) (rounds_here s e rounds is (All-tail (IsServedRound s) r rounds a))
 
-rounds_elsewhere : (s : Scene) (e : ℕ) (rounds : List Round) → served_end ≢ e → All (IsServedRound s) rounds → rounds_at s e rounds ≡ []
+rounds_elsewhere : (s : Scene) (e : ℕ) (rounds : List Giveback) → served_end ≢ e → All (IsServedRound s) rounds → rounds_at s e rounds ≡ []
 rounds_elsewhere s e [] off a = refl
 rounds_elsewhere s e (r ∷ rounds) off a =
     ap (λ b. cond b (r ∷ rounds_at s e rounds) (rounds_at s e rounds)) (ne_eqb (home_of (machine_of s) r.urb) e (λ is. off (sym (All-head (IsServedRound s) r rounds a) ∙ is)))
@@ -85,7 +85,7 @@ module _ (s : Scene) where
   abbrev script : List Item
   script = script_of s served_end
 
-  after_take : (f : Far) → Runs s f → Runs s (taken s f)
+  after_take : (f : Progress) → Runs s f → Runs s (taken s f)
   after_take f old = record {
     holds = takes_hold s f.history f.made f.rounds old.holds;
     calm = λ v. ap (λ (t : UrbState). t.mark) (takes_state f.history (line_of (machine_of s) f.history served_end) v) ∙ old.calm v;
@@ -96,34 +96,34 @@ module _ (s : Scene) where
   }
 
   -- the replies so far with the next n
-  longer_tiles : (f : Far) (n : ℕ) → replies_in f.rounds ++ f.so_far ≡ stretch script 0 (spent f) → replies_in f.rounds ++ had_after s f n ≡ stretch script 0 (spent f + n)
-  longer_tiles f n e = sym (append_assoc (replies_in f.rounds) f.so_far (stretch script (spent f) n))
-      ∙ (ap (λ l. l ++ stretch script (spent f) n) e ∙ (ap (λ k. stretch script 0 (spent f) ++ stretch script k n) (sym (zero-add (spent f))) ∙ sym (stretch-append script 0 (spent f) n)))
+  longer_tiles : (f : Progress) (n : ℕ) → replies_in f.rounds ++ f.so_far ≡ replies_from script 0 (replies_used f) → replies_in f.rounds ++ had_after s f n ≡ replies_from script 0 (replies_used f + n)
+  longer_tiles f n e = sym (append_assoc (replies_in f.rounds) f.so_far (replies_from script (replies_used f) n))
+      ∙ (ap (λ l. l ++ replies_from script (replies_used f) n) e ∙ (ap (λ k. replies_from script 0 (replies_used f) ++ replies_from script k n) (sym (zero-add (replies_used f))) ∙ sym (replies_from-append script 0 (replies_used f) n)))
 
-  after_wait : (f : Far) (n : ℕ) → Runs s f → Runs s (waits s f n)
+  after_wait : (f : Progress) (n : ℕ) → Runs s f → Runs s (waits s f n)
   after_wait f n old =
-      let long : spent f + n ≡ spent (waits s f n) = let a = length-append f.so_far (stretch script (spent f) n) in let b = length-stretch script (spent f) n in omega arith in
-      record { holds = old.holds; calm = old.calm; tiles = longer_tiles f n old.tiles ∙ ap (stretch script 0) long; moves = old.moves; homes = old.homes; told = old.told }
+      let long : replies_used f + n ≡ replies_used (waits s f n) = let a = length-append f.so_far (replies_from script (replies_used f) n) in let b = length-replies_from script (replies_used f) n in omega arith in
+      record { holds = old.holds; calm = old.calm; tiles = longer_tiles f n old.tiles ∙ ap (replies_from script 0) long; moves = old.moves; homes = old.homes; told = old.told }
 
-  round_calm : (h : List Entry) (r : Round) → IsCalm h → IsCalm (h ++ round_entries s r)
+  round_calm : (h : List Entry) (r : Giveback) → IsCalm h → IsCalm (h ++ giveback_entries s r)
   round_calm h r calm v = dite (ℕ_discrete v r.urb)
-      (λ is. subst (λ (v : ℕ). (state_of (h ++ round_entries s r) v).mark ≡ Clear) (sym is) (ap (λ (t : UrbState). t.mark) (round_state s h r)))
+      (λ is. subst (λ (v : ℕ). (state_of (h ++ giveback_entries s r) v).mark ≡ Clear) (sym is) (ap (λ (t : UrbState). t.mark) (round_state s h r)))
       (λ off. ap (λ (t : UrbState). t.mark) (round_other s h r v off) ∙ calm v)
 
-  after_round : (f : Far) (u : ℕ) (t : Transfer) (n : ℕ) (code : Code) → IsServed s f u t → GoesTo s u t f n (Ended code) → Runs s f → Runs s (given_back s f (round_of s f u t n code))
+  after_round : (f : Progress) (u : ℕ) (t : Transfer) (n : ℕ) (code : Code) → IsServed s f u t → GoesTo s u t f n (Ended code) → Runs s f → Runs s (given_back s f (giveback_of s f u t n code))
   after_round f u t n code at goes old =
-      let r = round_of s f u t n code in
+      let r = giveback_of s f u t n code in
       let home = first_at_home (machine_of s) served_end f.history u at.others old.holds.legal at.first in
       let ready : IsReady s f.history r = record { home = home; others = at.others; first = at.first; mark = old.calm u; window = sent_window (machine_of s) u f.history t old.holds.legal at.transfer } in
       let all : replies_in (f.rounds ++ r ∷ []) ≡ replies_in f.rounds ++ had_after s f n
-      = flat_map-append (λ (r : Round). r.replies) f.rounds (r ∷ []) ∙ ap (λ l. replies_in f.rounds ++ l) (append-nil (had_after s f n)) in
+      = flat_map-append (λ (r : Giveback). r.replies) f.rounds (r ∷ []) ∙ ap (λ l. replies_in f.rounds ++ l) (append-nil (had_after s f n)) in
       let is = all ∙ longer_tiles f n old.tiles in
-      let long : spent f + n ≡ length (replies_in (f.rounds ++ r ∷ [])) + 0 = let a = ap length is in let b = length-stretch script 0 (spent f + n) in omega arith in
+      let long : replies_used f + n ≡ length (replies_in (f.rounds ++ r ∷ [])) + 0 = let a = ap length is in let b = length-replies_from script 0 (replies_used f + n) in omega arith in
       record {
         holds = round_holds s f.history r ready f.made f.rounds at.transfer old.holds;
         calm = round_calm f.history r old.calm;
-        tiles = append-nil (replies_in (f.rounds ++ r ∷ [])) ∙ (is ∙ ap (stretch script 0) long);
-        moves = All-push (IsRound s) f.rounds r old.moves record { state = goes.state; whole = goes.whole };
+        tiles = append-nil (replies_in (f.rounds ++ r ∷ [])) ∙ (is ∙ ap (replies_from script 0) long);
+        moves = All-push (IsGiveback s) f.rounds r old.moves record { state = goes.state; whole = goes.whole };
         homes = All-push (IsServedRound s) f.rounds r old.homes home;
         told = old.told;
       }
@@ -137,26 +137,26 @@ module _ (s : Scene) where
       go true = refl
       go false = calm u
 
-  gives_back : (f m : Far) → GivesBack s f m → Runs s f → Runs s m
+  gives_back : (f m : Progress) → GivesBack s f m → Runs s f → Runs s m
   gives_back f _ none old = old
   gives_back f _ (one m u t n code g at goes) old = after_round (taken s m) u t n code at goes (after_take m (gives_back f m g old))
 
-  idle : (f e : Far) → IsIdle s f e → Runs s f → Runs s e
+  idle : (f e : Progress) → IsIdle s f e → Runs s f → Runs s e
   idle f _ (nothing e) old = after_take f old
   idle f _ (waiting u t n at goes) old = after_wait (taken s f) n (after_take f old)
 
   -- a run in line order so far has all of a run but the calls that are not made yet
-  pub runs : IsWellFormed s → (f : Far) → IsLine s f → All (IsMadeThere s) f.made → Runs s f
+  pub runs : IsWellFormed s → (f : Progress) → IsLine s f → All (IsMadeThere s) f.made → Runs s f
   runs good _ start there = record {
     holds = record { legal = empty; threads = λ i l. refl; server = refl; others = λ p off none. refl; gives = refl };
     calm = λ v. refl;
     tiles = refl;
-    moves = All-nil (IsRound s);
+    moves = All-nil (IsGiveback s);
     homes = All-nil (IsServedRound s);
     told = All-nil (IsMade s);
   }
   runs good _ (submit f thread l u line near) there =
-      let m : Made = record { thread = thread; call = record { line = l; kind = call.Submit u }; answer = told.Code (refusal (state_of f.history u)) } in
+      let m : CallMade = record { thread = thread; call = record { line = l; kind = call.Submit u }; answer = told.Code (refusal (state_of f.history u)) } in
       let old = runs good f line (All-front (IsMadeThere s) f.made (m ∷ []) there) in
       let here : thread < length s.threads = All-last (IsMadeThere s) f.made m there in
       record {
@@ -168,7 +168,7 @@ module _ (s : Scene) where
         told = All-push (IsMade s) f.made m old.told record { thread = here; answered = tt };
       }
   runs good _ (serve f m e thread l line gave rests) there =
-      let c : Made = record { thread = thread; call = record { line = l; kind = call.Serve }; answer = told.Nothing } in
+      let c : CallMade = record { thread = thread; call = record { line = l; kind = call.Serve }; answer = told.Nothing } in
       let made = idle_made s m e rests ∙ gives_made s f m gave in
       let here : thread < length s.threads = All-last (IsMadeThere s) e.made c there in
       let before = subst (All (IsMadeThere s)) made (All-front (IsMadeThere s) e.made (c ∷ []) there) in
@@ -183,22 +183,22 @@ module _ (s : Scene) where
       }
 
   -- the replies of the rounds are the first of the script
-  whole_tiles : (f : Far) → replies_in f.rounds ++ f.so_far ≡ stretch script 0 (spent f) → replies_in f.rounds ≡ stretch script 0 (length (replies_in f.rounds))
+  whole_tiles : (f : Progress) → replies_in f.rounds ++ f.so_far ≡ replies_from script 0 (replies_used f) → replies_in f.rounds ≡ replies_from script 0 (length (replies_in f.rounds))
   whole_tiles f tiles =
       let j = replies_in f.rounds in
-      let parts : j ++ f.so_far ≡ stretch script 0 (length j) ++ stretch script (0 + length j) (length f.so_far) = tiles ∙ stretch-append script 0 (length j) (length f.so_far) in
-      let front : take (length j) (stretch script 0 (length j) ++ stretch script (0 + length j) (length f.so_far)) ≡ stretch script 0 (length j)
-      = subst (λ (n : ℕ). take n (stretch script 0 (length j) ++ stretch script (0 + length j) (length f.so_far)) ≡ stretch script 0 (length j)) (length-stretch script 0 (length j)) (take-append_seam (stretch script 0 (length j)) (stretch script (0 + length j) (length f.so_far))) in
+      let parts : j ++ f.so_far ≡ replies_from script 0 (length j) ++ replies_from script (0 + length j) (length f.so_far) = tiles ∙ replies_from-append script 0 (length j) (length f.so_far) in
+      let front : take (length j) (replies_from script 0 (length j) ++ replies_from script (0 + length j) (length f.so_far)) ≡ replies_from script 0 (length j)
+      = subst (λ (n : ℕ). take n (replies_from script 0 (length j) ++ replies_from script (0 + length j) (length f.so_far)) ≡ replies_from script 0 (length j)) (length-replies_from script 0 (length j)) (take-append_seam (replies_from script 0 (length j)) (replies_from script (0 + length j) (length f.so_far))) in
       sym (take-append_seam j f.so_far) ∙ (ap (take (length j)) parts ∙ front)
 
-  replies_at : (f : Far) → Runs s f → (e : ℕ) → let had = replies_in (rounds_at s e f.rounds) in had ≡ stretch (script_of s e) 0 (length had)
+  replies_at : (f : Progress) → Runs s f → (e : ℕ) → let had = replies_in (rounds_at s e f.rounds) in had ≡ replies_from (script_of s e) 0 (length had)
   replies_at f r e = dite (ℕ_discrete served_end e)
-      (λ is. subst (λ (l : List Round). replies_in l ≡ stretch (script_of s e) 0 (length (replies_in l))) (sym (rounds_here s e f.rounds is r.homes))
-      (subst (λ (e : ℕ). replies_in f.rounds ≡ stretch (script_of s e) 0 (length (replies_in f.rounds))) is (whole_tiles f r.tiles)))
-      (λ off. subst (λ (l : List Round). replies_in l ≡ stretch (script_of s e) 0 (length (replies_in l))) (sym (rounds_elsewhere s e f.rounds off r.homes)) refl)
+      (λ is. subst (λ (l : List Giveback). replies_in l ≡ replies_from (script_of s e) 0 (length (replies_in l))) (sym (rounds_here s e f.rounds is r.homes))
+      (subst (λ (e : ℕ). replies_in f.rounds ≡ replies_from (script_of s e) 0 (length (replies_in f.rounds))) is (whole_tiles f r.tiles)))
+      (λ off. subst (λ (l : List Giveback). replies_in l ≡ replies_from (script_of s e) 0 (length (replies_in l))) (sym (rounds_elsewhere s e f.rounds off r.homes)) refl)
 
   -- the run in line order through all calls is a run of the scene
-  pub line_is_run : (f : Far) → IsWellFormed s → IsLineRun s f → IsRun s f.history f.made f.rounds
+  pub line_is_run : (f : Progress) → IsWellFormed s → IsLineRun s f → IsRun s f.history f.made f.rounds
   line_is_run f good line =
       let there = made_there s f.made line.all in
       let r = runs good f line.in_line there in

@@ -6,19 +6,19 @@ use Rattle.usb_machine.specs.declared.transfer.Transfer.{Transfer}
 use Rattle.usb_run.specs.declared.scene.Scene.{Scene}
 use Rattle.usb_run.specs.declared.scene.Call.{Call}
 use Rattle.usb_run.specs.declared.scene.CallKind.TheVariants as call
-use Rattle.usb_run.specs.declared.made.Made.{Made}
-use Rattle.usb_run.specs.declared.made.Told.{Told}
-use Rattle.usb_run.specs.declared.made.Told.TheVariants as told
+use Rattle.usb_run.specs.declared.made.CallMade.{CallMade}
+use Rattle.usb_run.specs.declared.made.CallAnswer.{CallAnswer}
+use Rattle.usb_run.specs.declared.made.CallAnswer.TheVariants as told
 use Rattle.usb_run.specs.declared.place.Place.{Place}
 use Rattle.usb_run.specs.declared.place.Place.TheVariants as place
 use Rattle.usb_run.specs.declared.turn.LineRun.{LineRun}
-use Rattle.usb_run.specs.Line.{Far, with_call, with_serve, IsLine, submit, serve}
-use Rattle.usb_run.specs.Shows.{IsMoving, Lists, Lies, Shows, Served, Submitted, submit_made, CallMade, IsAt, calls_in}
+use Rattle.usb_run.specs.Line.{Progress, with_call, with_serve, IsLine, submit, serve}
+use Rattle.usb_run.specs.Shows.{IsMoving, Lists, Lies, Shows, Served, Submitted, submit_made, MakesCall, IsAt, calls_in}
 use Rattle.usb_run.proofs.Lines.{gives_made, idle_made}
 
 -- a submit of an URB of the scene
-pub make_submit : (s : Scene) (f : Far) (thread : ℕ) (c : Call) (u : ℕ) (answer : Code) (run : LineRun) → c.kind ≡ call.Submit u → IsLine s f → u < length s.urbs
-    → Submitted s f thread c.line u answer run → CallMade s f record { thread = thread; call = c; answer = told.Code answer } run
+pub make_submit : (s : Scene) (f : Progress) (thread : ℕ) (c : Call) (u : ℕ) (answer : Code) (run : LineRun) → c.kind ≡ call.Submit u → IsLine s f → u < length s.urbs
+    → Submitted s f thread c.line u answer run → MakesCall s f record { thread = thread; call = c; answer = told.Code answer } run
 make_submit s f thread c u answer run kind line near sub = record {
   far = with_call s f (submit_made thread c.line u answer);
   in_line = subst (λ a. IsLine s (with_call s f (submit_made thread c.line u a))) (sym sub.refused) (submit f thread c.line u line near);
@@ -27,7 +27,7 @@ make_submit s f thread c u answer run kind line near sub = record {
 }
 
 -- one call more changes nothing else
-module _ (s : Scene) (e : Far) (m : Made) where
+module _ (s : Scene) (e : Progress) (m : CallMade) where
   lists_with : (line pending : List ℕ) → Lists s e line pending → Lists s (with_serve e m) line pending
   lists_with line pending l = record { in_line = l.in_line; in_pending = l.in_pending }
 
@@ -42,10 +42,10 @@ module _ (s : Scene) (e : Far) (m : Made) where
   shows_with : (run : LineRun) → Shows s e run → Shows s (with_serve e m) run
   shows_with run k = record { stands = k.stands; shape = k.shape; address = k.address; script = k.script; lies = lies_with run.place k.lies; gate = k.gate; given = k.given }
 
-pub make_serve : (s : Scene) (f : Far) (thread : ℕ) (c : Call) (run : LineRun) → c.kind ≡ call.Serve → IsLine s f → Served s f run
-    → CallMade s f record { thread = thread; call = c; answer = told.Nothing } run
+pub make_serve : (s : Scene) (f : Progress) (thread : ℕ) (c : Call) (run : LineRun) → c.kind ≡ call.Serve → IsLine s f → Served s f run
+    → MakesCall s f record { thread = thread; call = c; answer = told.Nothing } run
 make_serve s f thread c run kind line done =
-    let m : Made = record { thread = thread; call = record { line = c.line; kind = call.Serve }; answer = told.Nothing } in
+    let m : CallMade = record { thread = thread; call = record { line = c.line; kind = call.Serve }; answer = told.Nothing } in
     record {
       far = with_serve done.last m;
       in_line = serve f done.middle done.last thread c.line line done.gave done.idle;
@@ -54,18 +54,18 @@ make_serve s f thread c run kind line done =
     }
 
 -- one call more of a thread
-pub made_longer : (s : Scene) (f e : Far) (thread : ℕ) (calls : List Call) (i : ℕ) (d : Call) (answer : Told) (run after : LineRun) (made longer : List Made) → i < length calls
+pub made_longer : (s : Scene) (f e : Progress) (thread : ℕ) (calls : List Call) (i : ℕ) (d : Call) (answer : CallAnswer) (run after : LineRun) (made longer : List CallMade) → i < length calls
     → IsAt s e run made → calls_in e.made ≡ calls_in f.made ++ map (λ c. (thread, c)) (take i calls)
-    → CallMade s e record { thread = thread; call = get_or calls i d; answer = answer } after
+    → MakesCall s e record { thread = thread; call = get_or calls i d; answer = answer } after
     → longer ≡ made ++ record { thread = thread; call = get_or calls i d; answer = answer } ∷ []
-    → (x : Far) × IsAt s x after longer × (calls_in x.made ≡ calls_in f.made ++ map (λ c. (thread, c)) (take (i + 1) calls))
+    → (x : Progress) × IsAt s x after longer × (calls_in x.made ≡ calls_in f.made ++ map (λ c. (thread, c)) (take (i + 1) calls))
 made_longer s f e thread calls i d answer run after made longer near at all done pushed =
-    let m : Made = record { thread = thread; call = get_or calls i d; answer = answer } in
+    let m : CallMade = record { thread = thread; call = get_or calls i d; answer = answer } in
     let pair : Call → ℕ × Call = λ c. (thread, c) in (
       done.far,
       record { in_line = done.in_line; shows = done.shows; made_so = pushed ∙ (ap (λ l. l ++ m ∷ []) at.made_so ∙ sym done.made) },
       ap calls_in done.made
-          ∙ (map-append (λ (m : Made). (m.thread, m.call)) e.made (m ∷ [])
+          ∙ (map-append (λ (m : CallMade). (m.thread, m.call)) e.made (m ∷ [])
           ∙ (ap (λ l. l ++ pair (get_or calls i d) ∷ []) all
           ∙ (append_assoc (calls_in f.made) (map pair (take i calls)) (pair (get_or calls i d) ∷ [])
           ∙ ap (λ l. calls_in f.made ++ l) (sym (map-append pair (take i calls) (get_or calls i d ∷ [])) ∙ ap (map pair) (sym (take_more calls i d near)))))),

@@ -18,7 +18,7 @@ use Rattle.usb_machine.proofs.Steps.{state_of-snoc, pending_of-snoc, owes_own}
 use Rattle.usb_xfer.proofs.Windows.{moved_window}
 use Rattle.usb_run.specs.declared.scene.Scene.{Scene}
 use Rattle.usb_run.specs.Prepared.{pass_of, machine_of, max_of, fresh}
-use Rattle.usb_run.specs.Run.{Round, moved_in, entry}
+use Rattle.usb_run.specs.Run.{Giveback, moved_in, entry}
 use Rattle.usb_run.specs.WellFormed.{IsWellFormed}
 use Rattle.usb_run.specs.Line.{served_end}
 use Rattle.usb_run.proofs.Homes.{has_home, home_takes, fresh_window}
@@ -93,7 +93,7 @@ pub own_state : (u : ℕ) (h : List Entry) (x : Entry) (t : UrbState) → after_
 own_state u h x t e = state_of-snoc h x u ∙ (e ∙ ap (λ b. cond b t (state_of h u)) (eq-eqb u u refl))
 
 -- the server finishes the first pending URB, gives it back, and its handler rests the transfer
-module _ (s : Scene) (h : List Entry) (r : Round) where
+module _ (s : Scene) (h : List Entry) (r : Giveback) where
   abbrev pub finish : Entry
   finish = entry SERVER (Finish record { 0 = r.urb } r.status) (Truth true) None
 

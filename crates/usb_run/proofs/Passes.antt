@@ -10,8 +10,8 @@ use Rattle.usb_run.specs.declared.scene.Scene.{Scene}
 use Rattle.usb_run.specs.declared.scene.SceneThread.{SceneThread}
 use Rattle.usb_run.specs.declared.scene.CallKind.{CallKind}
 use Rattle.usb_run.specs.declared.scene.CallKind.TheVariants as call
-use Rattle.usb_run.specs.declared.made.Told.{Told}
-use Rattle.usb_run.specs.declared.made.Told.TheVariants as told
+use Rattle.usb_run.specs.declared.made.CallAnswer.{CallAnswer}
+use Rattle.usb_run.specs.declared.made.CallAnswer.TheVariants as told
 use Rattle.usb_run.specs.Prepared.{is_hub, pass_by, pass_of}
 use Rattle.usb_run.specs.Run.{entries_of}
 use Rattle.usb_run.specs.WellFormed.{IsWellFormed}
@@ -56,7 +56,7 @@ pub takes_pass : (us : List ℕ) → IsOf SERVER (takes us)
 takes_pass [] = tt
 takes_pass (u ∷ us) = (refl, takes_pass us)
 
-pub entries_pass : (s : Scene) (p line : ℕ) (k : CallKind) (a : Told) → IsOf p (entries_of s p line k a)
+pub entries_pass : (s : Scene) (p line : ℕ) (k : CallKind) (a : CallAnswer) → IsOf p (entries_of s p line k a)
 entries_pass s p line (call.Submit u) (told.Code Zero) = (refl, (refl, tt))
 entries_pass s p line (call.Submit u) (told.Code (Fault x)) = (refl, tt)
 entries_pass s p line (call.Submit u) told.Nothing = tt

@@ -22,14 +22,14 @@ use Rattle.usb_run.specs.declared.scene.Answers.{Answers}
 use Rattle.usb_run.specs.declared.scene.Item.{Item}
 use Rattle.usb_run.specs.declared.scene.Call.{Call}
 use Rattle.usb_run.specs.declared.scene.CallKind.TheVariants as call
-use Rattle.usb_run.specs.declared.made.Made.{Made}
-use Rattle.usb_run.specs.declared.made.Told.TheVariants as told
+use Rattle.usb_run.specs.declared.made.CallMade.{CallMade}
+use Rattle.usb_run.specs.declared.made.CallAnswer.TheVariants as told
 use Rattle.usb_run.specs.Prepared.{script_of, pass_of}
-use Rattle.usb_run.specs.Script.{stretch}
+use Rattle.usb_run.specs.Script.{replies_from}
 use Rattle.usb_machine.specs.Parts.{part_of}
-use Rattle.usb_run.specs.Run.{Round, call_entries, made_by, rounds_at, IsRun, IsRound, replies_in}
+use Rattle.usb_run.specs.Run.{Giveback, call_entries, made_by, rounds_at, IsRun, IsGiveback, replies_in}
 use Rattle.usb_run.specs.WellFormed.{IsBulkIn, IsItem, IsDevice, IsUrb, IsCall, IsWellFormed}
-use Rattle.usb_run.specs.Line.{Far, nowhere, none, one, nothing, waiting, IsLine, start, submit, serve, IsLineRun}
+use Rattle.usb_run.specs.Line.{Progress, at_start, none, one, nothing, waiting, IsLine, start, submit, serve, IsLineRun}
 use Rattle.usb_run.proofs.Lines.{line_is_run}
 
 -- a bulk IN endpoint 81 with packets of 8 bytes
@@ -82,13 +82,13 @@ history =
     ∷ record { pass = 0; event = Rest record { 0 = 0 } 5; answer = Nothing; carried = Some came_back }
     ∷ record { pass = 0; event = End record { 0 = 0 }; answer = Nothing; carried = None } ∷ []
 
-abbrev made : List Made
+abbrev made : List CallMade
 made = record { thread = 0; call = submit_on 5; answer = told.Code Zero } ∷ record { thread = 0; call = serve_on 6; answer = told.Nothing } ∷ []
 
-abbrev round : Round
+abbrev round : Giveback
 round = record { urb = 0; status = Zero; sent = sent; replies = short ∷ [] }
 
-abbrev whole : Far
+abbrev whole : Progress
 whole = record { history = history; made = made; rounds = round ∷ []; so_far = [] }
 
 -- a list of one reply ends with it
@@ -97,11 +97,11 @@ whole_one max t reply [] r after e s = cc
 whole_one max t reply (b ∷ []) r after e s = cc
 whole_one max t reply (b ∷ c ∷ before) r after e s = cc
 
-abbrev after_submit : Far
+abbrev after_submit : Progress
 after_submit = record { history = take 2 history; made = take 1 made; rounds = []; so_far = [] }
 
 in_line : IsLine one_packet whole
-in_line = serve after_submit (record whole { made = take 1 made }) (record whole { made = take 1 made }) 0 6 (submit nowhere 0 5 0 start (omega arith))
+in_line = serve after_submit (record whole { made = take 1 made }) (record whole { made = take 1 made }) 0 6 (submit at_start 0 5 0 start (omega arith))
     (one after_submit 0 sent 1 Zero none record { others = []; first = refl; transfer = refl } record { some = omega arith; before = λ k a b. absurd (omega arith); state = refl; whole = whole_one 8 sent short })
     (nothing refl)
 
@@ -142,10 +142,10 @@ run = record {
   told = (line_is_run one_packet whole well_formed line_run).told;
   gives = refl;
   replies = λ e. own_replies e;
-  moves = All-cons (IsRound one_packet) round [] record { state = refl; whole = whole_one 8 sent short } (All-nil (IsRound one_packet));
+  moves = All-cons (IsGiveback one_packet) round [] record { state = refl; whole = whole_one 8 sent short } (All-nil (IsGiveback one_packet));
 }
   where
-    own_calls : (i : ℕ) (thread : SceneThread) → slice_get one_packet.threads i ≡ Some thread → map (λ (m : Made). m.call) (made_by i made) ≡ thread.calls
+    own_calls : (i : ℕ) (thread : SceneThread) → slice_get one_packet.threads i ≡ Some thread → map (λ (m : CallMade). m.call) (made_by i made) ≡ thread.calls
     own_calls zero thread at = let same : record { name = 116 ∷ []; calls = submit_on 5 ∷ serve_on 6 ∷ [] } ≡ thread = cc in ap (λ (t : SceneThread). t.calls) same
     own_calls (suc i) thread at = cc
 
@@ -153,12 +153,12 @@ run = record {
     own_part zero l = refl
     own_part (suc i) l = absurd (omega arith)
 
-    own_replies : (e : ℕ) → replies_in (rounds_at one_packet e (round ∷ [])) ≡ stretch (script_of one_packet e) 0 (length (replies_in (rounds_at one_packet e (round ∷ []))))
+    own_replies : (e : ℕ) → replies_in (rounds_at one_packet e (round ∷ [])) ≡ replies_from (script_of one_packet e) 0 (length (replies_in (rounds_at one_packet e (round ∷ []))))
     own_replies zero = refl
     own_replies (suc zero) = refl
     own_replies (suc (suc e)) =
         let off : 1 ≡ suc (suc e) → ⊥ = λ same. absurd (omega arith) in
-        subst (λ b. let had = replies_in (cond b (round ∷ []) []) in had ≡ stretch (script_of one_packet (suc (suc e))) 0 (length had)) (sym (ne_eqb 1 (suc (suc e)) off)) refl
+        subst (λ b. let had = replies_in (cond b (round ∷ []) []) in had ≡ replies_from (script_of one_packet (suc (suc e))) 0 (length had)) (sym (ne_eqb 1 (suc (suc e)) off)) refl
 
 -- a full packet and a Nak: the first serve gives nothing back, and the URB stays busy until the second
 abbrev full : Reply
@@ -187,18 +187,18 @@ long_history =
     ∷ record { pass = 0; event = Rest record { 0 = 0 } 5; answer = Nothing; carried = Some long_back }
     ∷ record { pass = 0; event = End record { 0 = 0 }; answer = Nothing; carried = None } ∷ []
 
-abbrev long_made : List Made
+abbrev long_made : List CallMade
 long_made =
     record { thread = 0; call = submit_on 5; answer = told.Code Zero }
     ∷ record { thread = 0; call = serve_on 6; answer = told.Nothing }
     ∷ record { thread = 0; call = submit_on 7; answer = told.Code (Fault EBUSY) }
     ∷ record { thread = 0; call = serve_on 8; answer = told.Nothing } ∷ []
 
-abbrev long_round : Round
+abbrev long_round : Giveback
 long_round = record { urb = 0; status = Zero; sent = long_sent; replies = full ∷ Nak ∷ short ∷ [] }
 
 -- the run after so many entries and calls, where the first pending transfer has had these replies
-abbrev so_long : ℕ → ℕ → List Round → List Reply → Far
+abbrev so_long : ℕ → ℕ → List Giveback → List Reply → Progress
 so_long entries calls rounds had = record { history = take entries long_history; made = take calls long_made; rounds = rounds; so_far = had }
 
 -- a reply that comes before the last does not end the transfer
@@ -216,10 +216,10 @@ whole_three (b ∷ c ∷ d ∷ []) r after e s = cc
 whole_three (b ∷ c ∷ d ∷ f ∷ before) r after e s = cc
 
 first_serve : IsLine with_wait (so_long 3 2 [] (full ∷ Nak ∷ []))
-first_serve = serve (so_long 2 1 [] []) (so_long 2 1 [] []) (so_long 3 1 [] (full ∷ Nak ∷ [])) 0 6 (submit nowhere 0 5 0 start (omega arith)) none
+first_serve = serve (so_long 2 1 [] []) (so_long 2 1 [] []) (so_long 3 1 [] (full ∷ Nak ∷ [])) 0 6 (submit at_start 0 5 0 start (omega arith)) none
     (waiting 0 long_sent 2 record { others = []; first = refl; transfer = refl } record { some = omega arith; before = λ k a b. before_two k a b; state = refl; whole = whole_two })
   where
-    before_two : (k : ℕ) → 0 < k → k < 2 → moved_state 8 long_sent (stretch (script_of with_wait 1) 0 k) ≡ More
+    before_two : (k : ℕ) → 0 < k → k < 2 → moved_state 8 long_sent (replies_from (script_of with_wait 1) 0 k) ≡ More
     before_two zero a b = absurd (omega arith)
     before_two (suc zero) a b = refl
     before_two (suc (suc k)) a b = absurd (omega arith)

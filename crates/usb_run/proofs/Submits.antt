@@ -12,7 +12,7 @@ use Rattle.usb_machine.specs.History.{home_of, state_of, after_entry, line_of, l
 use Rattle.usb_machine.specs.Legal.{IsLegal, longer}
 use Rattle.usb_run.specs.declared.scene.Scene.{Scene}
 use Rattle.usb_run.specs.declared.scene.CallKind.TheVariants as call
-use Rattle.usb_run.specs.declared.made.Told.TheVariants as told
+use Rattle.usb_run.specs.declared.made.CallAnswer.TheVariants as told
 use Rattle.usb_run.specs.Prepared.{pass_of, machine_of, fresh}
 use Rattle.usb_run.specs.Run.{entry, entries_of}
 use Rattle.usb_run.specs.WellFormed.{IsWellFormed}

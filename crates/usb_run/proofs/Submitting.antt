@@ -24,7 +24,7 @@ use Rattle.usb_run.specs.declared.place.Place.TheVariants as place
 use Rattle.usb_run.specs.declared.turn.LineRun.{LineRun}
 use Rattle.usb_run.specs.Prepared.{pass_of, machine_of, max_of, fresh}
 use Rattle.usb_run.specs.WellFormed.{IsWellFormed}
-use Rattle.usb_run.specs.Line.{Far, served_end, with_call}
+use Rattle.usb_run.specs.Line.{Progress, served_end, with_call}
 use Rattle.usb_run.specs.Shows.{told_code, is_held, IsGated, IsMoving, Lists, Lies, Shows, Submitted, submit_made}
 use Rattle.usb_run.proofs.Homes.{home_served}
 use Rattle.usb_run.proofs.MayFollow.{submit_follows, submit_owes, link_follows}
@@ -39,7 +39,7 @@ free : (b : Bool) → (b ≡ true → ⊥) → b ≡ false
 free true n = absurd (n refl)
 free false n = refl
 
-out_lies : (s : Scene) (f : Far) (p : Place) → is_held p ≡ false → Lies s f p → Lies s f place.Out
+out_lies : (s : Scene) (f : Progress) (p : Place) → is_held p ≡ false → Lies s f p → Lies s f place.Out
 out_lies s f place.Out e l = l
 out_lies s f (place.Line t) e l = cc
 out_lies s f (place.Pending t) e l = cc
@@ -50,7 +50,7 @@ nothing_moved max t f a = (λ i. record t { buf = same i; actual = a i })
     same : t.buf ≡ take t.from t.buf ++ [] ++ drop (t.from + 0) t.buf
     same = grind (arith, common_steps)
 
-module _ (s : Scene) (good : IsWellFormed s) (f : Far) (thread : ℕ) (there : thread < length s.threads) (line : ℕ) (near : 0 < length s.urbs) (run : LineRun) (shows : Shows s f run)
+module _ (s : Scene) (good : IsWellFormed s) (f : Progress) (thread : ℕ) (there : thread < length s.threads) (line : ℕ) (near : 0 < length s.urbs) (run : LineRun) (shows : Shows s f run)
     (mid : Plain) (pass : ℕ) (a : Answer) (by : pass ≡ pass_of s thread)
     (answered : Answered run.plain (Submit record { 0 = 0 } line) a) (stepped : Stepped run.plain mid pass (Submit record { 0 = 0 } line) a) where
   abbrev h : List Entry
@@ -59,7 +59,7 @@ module _ (s : Scene) (good : IsWellFormed s) (f : Far) (thread : ℕ) (there : t
   abbrev says : Code
   says = refusal (state_of h 0)
 
-  abbrev after : Code → Far
+  abbrev after : Code → Progress
   after c = with_call s f (submit_made thread line 0 c)
 
   said : (a ≡ Status says) × Stands mid (machine_of s) (h ++ submit s h thread line 0 says ∷ [])

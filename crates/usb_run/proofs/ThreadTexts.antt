@@ -2,10 +2,10 @@
 use Rattle.std.proofs.Common.{ℕ, zero, suc, ◌≡◌, ◌+◌, ◌<◌, List, [], ◌∷◌, ◌++◌, length, take, get_or, refl, sym, ap, ◌∙◌, subst, arith, append-nil, append_assoc, add-zero, add-one}
 use Rattle.usb_run.specs.declared.scene.Scene.{Scene}
 use Rattle.usb_run.specs.declared.scene.SceneThread.{SceneThread}
-use Rattle.usb_run.specs.declared.made.Made.{Made}
+use Rattle.usb_run.specs.declared.made.CallMade.{CallMade}
 use Rattle.usb_run.specs.Report.{thread_text, threads_from}
 
-module _ (s : Scene) (made : List Made) where
+module _ (s : Scene) (made : List CallMade) where
   one_more : (i k : ℕ) (ts : List SceneThread) (t : SceneThread) → k < length ts → t ≡ get_or ts k t
       → threads_from s made i (take (suc k) ts) ≡ threads_from s made i (take k ts) ++ thread_text s made (i + k) t
   one_more i k [] t l e = absurd (omega arith)

@@ -22,18 +22,18 @@ use Rattle.usb_run.specs.declared.device.Scripted.{Scripted}
 use Rattle.usb_run.specs.declared.place.Place.{Place}
 use Rattle.usb_run.specs.declared.place.Place.TheVariants as place
 use Rattle.usb_run.specs.declared.turn.LineRun.{LineRun}
-use Rattle.usb_run.specs.Script.{stretch}
+use Rattle.usb_run.specs.Script.{replies_from}
 use Rattle.usb_run.specs.Prepared.{home_at, machine_of, max_of, script_of}
 use Rattle.usb_run.specs.WellFormed.{IsWellFormed}
-use Rattle.usb_run.specs.Run.{Round, round_entries, replies_in}
+use Rattle.usb_run.specs.Run.{Giveback, giveback_entries, replies_in}
 use Rattle.usb_run.specs.Scripted.{IsAfter, Replied}
 use Rattle.usb_run.specs.Given.{moved_bytes, given_of}
-use Rattle.usb_run.specs.Line.{Far, served_end, spent, taken, had_after, GoesTo, IsServed, round_of, given_back, waits, nothing, waiting, one}
+use Rattle.usb_run.specs.Line.{Progress, served_end, replies_used, taken, had_after, GoesTo, IsServed, giveback_of, given_back, waits, nothing, waiting, one}
 use Rattle.usb_run.specs.Shows.{code_of, in_place, is_held, IsHeldBy, IsGated, IsMoving, Lists, Lies, Shows, CanGive, Turned}
 use Rattle.usb_run.proofs.Homes.{home_served, served_shape, size_served}
 use Rattle.usb_run.proofs.Takes.{takes_line, takes_pending, takes_state, takes_sent}
 use Rattle.usb_run.proofs.Rounds.{round_state, round_line, round_pending}
-use Rattle.usb_run.proofs.Stretches.{length-stretch}
+use Rattle.usb_run.proofs.Stretches.{length-replies_from}
 use Rattle.usb_run.proofs.Chains.{same_address, chain, goes}
 
 -- the place of a transfer after the line was taken
@@ -41,7 +41,7 @@ abbrev pub behind : Option Transfer → Place
 behind None = place.Out
 behind (Some t) = place.Pending t
 
-module _ (s : Scene) (f : Far) where
+module _ (s : Scene) (f : Progress) where
   abbrev waiting_line : List ℕ
   waiting_line = line_of (machine_of s) f.history served_end
 
@@ -85,7 +85,7 @@ module _ (s : Scene) (f : Far) where
       (taken s f, nothing k.lies.0.in_pending, subst (λ (p : Place). Shows s (taken s f) record run { plain = plain; place = p }) (sym is) k)
 
 -- a machine with an URB stands for one of a scene with an URB
-pub has_urb : (s : Scene) (run : LineRun) (f : Far) (t : Transfer) → in_place run.place ≡ Some t → IsHeldBy run.plain (in_place run.place) → Shows s f run → 0 < length s.urbs
+pub has_urb : (s : Scene) (run : LineRun) (f : Progress) (t : Transfer) → in_place run.place ≡ Some t → IsHeldBy run.plain (in_place run.place) → Shows s f run → 0 < length s.urbs
 has_urb s run f t e fit shows =
     let some = (subst (IsHeldBy run.plain) e fit).1 in
     let same : urbs_of run.plain ≡ length (map (home_at s) s.urbs) = shows.stands.urbs in
@@ -106,9 +106,9 @@ is_ended Waiting c e = cc
 is_ended (Ended d) c e = let same : d ≡ c = cc in ap Ended same
 
 -- the first pending transfer was moved on until it ended or waits
-module _ (s : Scene) (good : IsWellFormed s) (f : Far) (near : 0 < length s.urbs) (run : LineRun) (t now : Transfer) (k : Shows s (taken s f) record run { place = place.Pending t })
+module _ (s : Scene) (good : IsWellFormed s) (f : Progress) (near : 0 < length s.urbs) (run : LineRun) (t now : Transfer) (k : Shows s (taken s f) record run { place = place.Pending t })
     (after : Scripted) (more : List Reply) (step : Step) (gave : Gave Replied run.shape.address run.device more after) (goes_on : RunsOn run.shape.max t now more step) where
-  abbrev m : Far
+  abbrev m : Progress
   m = taken s f
 
   abbrev n : ℕ
@@ -123,8 +123,8 @@ module _ (s : Scene) (good : IsWellFormed s) (f : Far) (near : 0 < length s.urbs
   size : run.shape.max ≡ max_of s 0
   size = ap (λ (x : Shape). x.max) (subst (λ (o : Option Shape). IfSome o (λ x. run.shape ≡ x)) (served_shape s good 0 near).stands k.shape) ∙ sym (size_served s good 0 near)
 
-  script : (more ≡ stretch items (spent m) n) × IsAfter after items (spent m + n)
-  script = chain items run.shape.address run.device after more (spent m) gave (sym k.address) k.script
+  script : (more ≡ replies_from items (replies_used m) n) × IsAfter after items (replies_used m + n)
+  script = chain items run.shape.address run.device after more (replies_used m) gave (sym k.address) k.script
 
   stop : Stops (max_of s 0) start m.so_far more now step
   stop = (subst (λ (size : ℕ). RunsOn size t now more step) size goes_on).stops start m.so_far k.lies.1.window k.lies.1.going k.lies.1.moving
@@ -145,7 +145,7 @@ module _ (s : Scene) (good : IsWellFormed s) (f : Far) (near : 0 < length s.urbs
   pub turned_waiting : code_of step ≡ None → Turned s f false record run { device = after; place = place.Pending now }
   turned_waiting e =
       let g = subst (GoesTo s 0 start m n) (is_waiting step e goes_on.stopped) so_far in
-      let long : spent m + n ≡ spent (waits s m n) = let x = length-append m.so_far (stretch items (spent m) n) in let y = length-stretch items (spent m) n in omega arith in (
+      let long : replies_used m + n ≡ replies_used (waits s m n) = let x = length-append m.so_far (replies_from items (replies_used m) n) in let y = length-replies_from items (replies_used m) n in omega arith in (
         waits s m n,
         waiting 0 start n served g,
         record {
@@ -164,8 +164,8 @@ module _ (s : Scene) (good : IsWellFormed s) (f : Far) (near : 0 < length s.urbs
 
   -- it ended with this code
   module _ (code : Code) (ended : code_of step ≡ Some code) where
-    abbrev r : Round
-    r = round_of s m 0 start n code
+    abbrev r : Giveback
+    r = giveback_of s m 0 start n code
 
     home : home_of (machine_of s) 0 ≡ served_end
     home = home_served s good 0 near
@@ -176,14 +176,14 @@ module _ (s : Scene) (good : IsWellFormed s) (f : Far) (near : 0 < length s.urbs
     pub same_number : start.number ≡ now.number
     same_number = sym (ap (λ (t : Transfer). t.number) moved_now)
 
-    long : spent m + n ≡ spent (given_back s m r)
+    long : replies_used m + n ≡ replies_used (given_back s m r)
     long =
         let all : replies_in (m.rounds ++ r ∷ []) ≡ replies_in m.rounds ++ had_after s m n
-        = flat_map-append (λ (r : Round). r.replies) m.rounds (r ∷ []) ∙ ap (λ l. replies_in m.rounds ++ l) (append-nil (had_after s m n)) in
+        = flat_map-append (λ (r : Giveback). r.replies) m.rounds (r ∷ []) ∙ ap (λ l. replies_in m.rounds ++ l) (append-nil (had_after s m n)) in
         let x = ap length all in
-        let y = length-stretch items (spent m) n in
+        let y = length-replies_from items (replies_used m) n in
         let z = length-append (replies_in m.rounds) (had_after s m n) in
-        let w = length-append m.so_far (stretch items (spent m) n) in
+        let w = length-append m.so_far (replies_from items (replies_used m) n) in
         omega arith
 
     lists : Lists s (given_back s m r) [] []
@@ -198,7 +198,7 @@ module _ (s : Scene) (good : IsWellFormed s) (f : Far) (near : 0 < length s.urbs
 
     pub turned_given : (plain : Plain) (out : Place) (status : Code) (bytes : List ℕ) (given : List Given) → out ≡ place.Out → status ≡ code → bytes ≡ moved_bytes now
         → given ≡ run.given ++ record { urb = 0; status = status; actual = now.actual; bytes = bytes } ∷ []
-        → Stands plain (machine_of s) (m.history ++ round_entries s r)
+        → Stands plain (machine_of s) (m.history ++ giveback_entries s r)
         → Turned s f true record { plain = plain; shape = run.shape; device = after; place = out; given = given }
     turned_given plain out status bytes given is same moved_them pushed stands =
         let e = given_back s m r in

@@ -11,9 +11,9 @@ reply_at [] n = Nak
 reply_at (item ∷ items) n = if nat_lt n item.times then item.reply else reply_at items (n - item.times)
 
 -- the next n replies, where m calls came before
-abbrev pub stretch : List Item → ℕ → ℕ → List Reply
-stretch items m zero = []
-stretch items m (suc n) = reply_at items m ∷ stretch items (suc m) n
+abbrev pub replies_from : List Item → ℕ → ℕ → List Reply
+replies_from items m zero = []
+replies_from items m (suc n) = reply_at items m ∷ replies_from items (suc m) n
 
 -- the items of an address, joined in the order of their lines
 abbrev pub items_at : ℕ → List Answers → List Item

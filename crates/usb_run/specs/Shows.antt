@@ -20,16 +20,16 @@ use Rattle.usb_machine.specs.Shapes.{HasWindow}
 use Rattle.usb_run.specs.declared.scene.Scene.{Scene}
 use Rattle.usb_run.specs.declared.scene.Call.{Call}
 use Rattle.usb_run.specs.declared.scene.CallKind.TheVariants as call
-use Rattle.usb_run.specs.declared.made.Made.{Made}
-use Rattle.usb_run.specs.declared.made.Told.TheVariants as told
+use Rattle.usb_run.specs.declared.made.CallMade.{CallMade}
+use Rattle.usb_run.specs.declared.made.CallAnswer.TheVariants as told
 use Rattle.usb_run.specs.declared.place.Place.{Place}
 use Rattle.usb_run.specs.declared.place.Place.TheVariants as place
 use Rattle.usb_run.specs.declared.turn.LineRun.{LineRun}
 use Rattle.usb_run.specs.declared.made.Outcome.{Outcome}
 use Rattle.usb_run.specs.Prepared.{machine_of, shapes_of, max_of, script_of}
-use Rattle.usb_run.specs.Run.{Round}
+use Rattle.usb_run.specs.Run.{Giveback}
 use Rattle.usb_run.specs.Scripted.{IsAfter}
-use Rattle.usb_run.specs.Line.{Far, served_end, spent, GivesBack, IsIdle, IsLine, IsLineRun, with_call}
+use Rattle.usb_run.specs.Line.{Progress, served_end, replies_used, GivesBack, IsIdle, IsLine, IsLineRun, with_call}
 use Rattle.usb_run.specs.Given.{given_of}
 
 -- the code that a transfer ended with
@@ -85,7 +85,7 @@ pub record IsGated (u : UrbState) (held : Bool) : Type 0 where
   pub handlers : u.handlers ≡ 0
 
 -- the transfer is the one that was sent, as its replies so far moved it
-pub record IsMoving (s : Scene) (f : Far) (t : Transfer) : Type 0 where
+pub record IsMoving (s : Scene) (f : Progress) (t : Transfer) : Type 0 where
   pub start : Transfer
   pub sent_it : sent_of f.history 0 ≡ Some start
   pub window : HasWindow start
@@ -93,27 +93,27 @@ pub record IsMoving (s : Scene) (f : Far) (t : Transfer) : Type 0 where
   pub going : IsOpen (max_of s 0) start f.so_far
 
 -- what stands in the line and in the pending list of the served endpoint
-pub record Lists (s : Scene) (f : Far) (line pending : List ℕ) : Type 0 where
+pub record Lists (s : Scene) (f : Progress) (line pending : List ℕ) : Type 0 where
   pub in_line : line_of (machine_of s) f.history served_end ≡ line
   pub in_pending : pending_of (machine_of s) f.history served_end ≡ pending
 
-abbrev pub Lies : Scene → Far → Place → Type 0
+abbrev pub Lies : Scene → Progress → Place → Type 0
 Lies s f place.Out = Lists s f [] [] × (f.so_far ≡ [])
 Lies s f (place.Line t) = Lists s f (0 ∷ []) [] × (f.so_far ≡ []) × IsMoving s f t
 Lies s f (place.Pending t) = Lists s f [] (0 ∷ []) × IsMoving s f t
 
 -- the run's object has come as far as f: its machine, the device, where the URB is, and what came back
-pub record Shows (s : Scene) (f : Far) (run : LineRun) : Type 0 where
+pub record Shows (s : Scene) (f : Progress) (run : LineRun) : Type 0 where
   pub stands : Stands run.plain (machine_of s) f.history
   pub shape : IfSome (slice_get (shapes_of s) served_end) (λ (shape : Shape). run.shape ≡ shape)
   pub address : run.device.address ≡ run.shape.address
-  pub script : IsAfter run.device (script_of s served_end) (spent f)
+  pub script : IsAfter run.device (script_of s served_end) (replies_used f)
   pub lies : Lies s f run.place
   pub gate : IsGated (state_of f.history 0) (is_held run.place)
   pub given : run.given ≡ map (given_of s) f.rounds
 
 -- the round's URB is the one that is pending, and nothing marks or handles it
-pub record CanGive (s : Scene) (h : List Entry) (r : Round) : Type 0 where
+pub record CanGive (s : Scene) (h : List Entry) (r : Giveback) : Type 0 where
   pub urb : r.urb ≡ 0
   pub home : home_of (machine_of s) 0 ≡ served_end
   pub first : pending_of (machine_of s) h served_end ≡ 0 ∷ []
@@ -121,18 +121,18 @@ pub record CanGive (s : Scene) (h : List Entry) (r : Round) : Type 0 where
   pub gate : IsGated (state_of h 0) true
 
 -- one turn more that gives back
-abbrev pub IsOneMore : Scene → Far → Far → Type 0
-IsOneMore s f e = (m : Far) → GivesBack s m f → GivesBack s m e
+abbrev pub IsOneMore : Scene → Progress → Progress → Type 0
+IsOneMore s f e = (m : Progress) → GivesBack s m f → GivesBack s m e
 
 -- what a turn did, by whether it gave back
-abbrev pub Turned : Scene → Far → Bool → LineRun → Type 0
-Turned s f true run = (e : Far) × IsOneMore s f e × Shows s e run
-Turned s f false run = (e : Far) × IsIdle s f e × Shows s e run
+abbrev pub Turned : Scene → Progress → Bool → LineRun → Type 0
+Turned s f true run = (e : Progress) × IsOneMore s f e × Shows s e run
+Turned s f false run = (e : Progress) × IsIdle s f e × Shows s e run
 
 -- what a serve did
-pub record Served (s : Scene) (f : Far) (run : LineRun) : Type 0 where
-  pub middle : Far
-  pub last : Far
+pub record Served (s : Scene) (f : Progress) (run : LineRun) : Type 0 where
+  pub middle : Progress
+  pub last : Progress
   pub gave : GivesBack s f middle
   pub idle : IsIdle s middle last
   pub shows : Shows s last run
@@ -142,17 +142,17 @@ abbrev pub zeros : ℕ → ℕ → Transfer
 zeros len line = record { setup = None; buf = replicate len 0; from = 0; len = len; short_not_ok = false; actual = 0; number = line }
 
 -- a submit with its answer
-abbrev pub submit_made : ℕ → ℕ → ℕ → Code → Made
+abbrev pub submit_made : ℕ → ℕ → ℕ → Code → CallMade
 submit_made thread line u answer = record { thread = thread; call = record { line = line; kind = call.Submit u }; answer = told.Code answer }
 
 -- what a submit did
-pub record Submitted (s : Scene) (f : Far) (thread line u : ℕ) (answer : Code) (run : LineRun) : Type 0 where
+pub record Submitted (s : Scene) (f : Progress) (thread line u : ℕ) (answer : Code) (run : LineRun) : Type 0 where
   pub refused : answer ≡ refusal (state_of f.history u)
   pub shows : Shows s (with_call s f (submit_made thread line u answer)) run
 
 -- what a call did
-pub record CallMade (s : Scene) (f : Far) (m : Made) (run : LineRun) : Type 0 where
-  pub far : Far
+pub record MakesCall (s : Scene) (f : Progress) (m : CallMade) (run : LineRun) : Type 0 where
+  pub far : Progress
   pub in_line : IsLine s far
   pub made : far.made ≡ f.made ++ m ∷ []
   pub shows : Shows s far run
@@ -163,24 +163,24 @@ pub record IsOf (s : Scene) (plain : Plain) : Type 0 where
   pub ends : ends_of plain ≡ length (shapes_of s)
 
 -- the calls that were made, each with its thread's number
-abbrev pub calls_in : List Made → List (ℕ × Call)
+abbrev pub calls_in : List CallMade → List (ℕ × Call)
 calls_in made = map (λ m. (m.thread, m.call)) made
 
 -- the run's object and the calls made so far show how far the run is
-pub record IsAt (s : Scene) (f : Far) (run : LineRun) (made : List Made) : Type 0 where
+pub record IsAt (s : Scene) (f : Progress) (run : LineRun) (made : List CallMade) : Type 0 where
   pub in_line : IsLine s f
   pub shows : Shows s f run
   pub made_so : made ≡ f.made
 
 -- what the calls of a thread did
-pub record CallsMade (s : Scene) (f : Far) (thread : ℕ) (calls : List Call) (run : LineRun) (made : List Made) : Type 0 where
-  pub far : Far
+pub record MakesCalls (s : Scene) (f : Progress) (thread : ℕ) (calls : List Call) (run : LineRun) (made : List CallMade) : Type 0 where
+  pub far : Progress
   pub at : IsAt s far run made
   pub all : calls_in far.made ≡ calls_in f.made ++ map (λ c. (thread, c)) calls
 
 -- the outcome is that of the scene's run in line order
 pub record IsOutcome (s : Scene) (o : Outcome) : Type 0 where
-  pub far : Far
+  pub far : Progress
   pub line : IsLineRun s far
   pub made : o.made ≡ far.made
   pub given : o.given ≡ map (given_of s) far.rounds

@@ -6,13 +6,13 @@ use Rattle.usb_run.specs.declared.scene.Scene.{Scene}
 use Rattle.usb_run.specs.declared.rules.Cause.{Cause}
 use Rattle.usb_run.specs.Read.{scene_of}
 use Rattle.usb_run.specs.Run.{IsRun}
-use Rattle.usb_run.specs.Line.{Far, IsLineRun}
+use Rattle.usb_run.specs.Line.{Progress, IsLineRun}
 use Rattle.usb_run.specs.Report.{report_of}
 use Rattle.usb_run.specs.Io.{ReadsAll, ReadsTooMany, WritesSome}
 
 -- the report of the scene's run in line order was added. That run is a run of the scene
 pub record AddsReport (s : Scene) (old new : List ℕ) : Type 0 where
-  pub far : Far
+  pub far : Progress
   pub line : IsLineRun s far
   pub run : IsRun s far.history far.made far.rounds
   pub text : new ≡ old ++ report_of s far.made far.rounds
@@ -23,7 +23,7 @@ pub record RanSerial (left_old left_new held_old held_new : Option (List ℕ)) :
   pub scene : Scene
   pub input : ReadsAll left_old left_new bytes
   pub is_scene : scene_of bytes ≡ Ok scene
-  pub far : Far
+  pub far : Progress
   pub line : IsLineRun scene far
   pub run : IsRun scene far.history far.made far.rounds
   pub report : Appends held_old held_new (report_of scene far.made far.rounds)
@@ -34,7 +34,7 @@ pub record RanInPart (left_old left_new held_old held_new : Option (List ℕ)) :
   pub scene : Scene
   pub input : ReadsAll left_old left_new bytes
   pub is_scene : scene_of bytes ≡ Ok scene
-  pub far : Far
+  pub far : Progress
   pub line : IsLineRun scene far
   pub report : WritesSome held_old held_new (report_of scene far.made far.rounds)
 

@@ -4,7 +4,7 @@ use usb_types::{Buf, Code, List};
 
 /// What a call answers.
 #[derive(Clone, Copy, Debug, PartialEq, Eq)]
-pub enum Told {
+pub enum CallAnswer {
     /// Of a serve.
     Nothing,
     Code(Code),
@@ -12,11 +12,11 @@ pub enum Told {
 
 /// A call that was made, with its answer.
 #[derive(Clone, Copy, Debug, PartialEq, Eq)]
-pub struct Made {
+pub struct CallMade {
     /// The thread's number in the scene.
     pub thread: u32,
     pub call: Call,
-    pub answer: Told,
+    pub answer: CallAnswer,
 }
 
 /// What a Give gave back.
@@ -34,6 +34,6 @@ pub struct Given {
 /// What is left of a run: its calls with their answers, and what came back.
 #[derive(Debug, Drop)]
 pub struct Outcome {
-    pub made: List<Made>,
+    pub made: List<CallMade>,
     pub given: List<Given>,
 }

@@ -3,7 +3,7 @@ ghost use Rattle.std.specs.Prelude.{◌≡◌, ◌≤◌, ◌<◌, ◌^◌, ◌+
 ghost use Rattle.usb_run.specs.Prepared.{control_end, shapes_from, shapes_of, is_at, machine_of, script_of};
 ghost use Rattle.usb_run.specs.WellFormed.{IsWellFormed};
 ghost use Rattle.usb_run.specs.Scripted.{IsAfter};
-ghost use Rattle.usb_run.specs.Line.{served_end, nowhere};
+ghost use Rattle.usb_run.specs.Line.{served_end, at_start};
 ghost use Rattle.usb_run.specs.Shows.{IsFit, IsOf, Shows};
 
 use crate::device::Scripted;
@@ -116,7 +116,7 @@ pub fn opening(alloc: Global, scene: &Scene) -> Result<LineRun<'_>, Memory>
     requires { IsWellFormed scene.now }
     ensures fit { IfOk result IsFit }
     ensures counts { IfOk result (λ run. IsOf scene.now run.plain) }
-    ensures shows { IfOk result (λ run. Shows scene.now nowhere run) }
+    ensures shows { IfOk result (λ run. Shows scene.now at_start run) }
 {
     let layout = layout(alloc, scene)?;
     let passes = scene.threads.items().len() as u32 + 1;

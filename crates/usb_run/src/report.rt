@@ -6,7 +6,7 @@ ghost use Rattle.usb_text.specs.Print.{hex_text};
 ghost use Rattle.usb_run.specs.Run.{made_by};
 ghost use Rattle.usb_run.specs.Report.{urb_name, made_text, thread_text, threads_from, given_text, given_section, text_of};
 
-use crate::made::{Given, Made, Told};
+use crate::made::{CallAnswer, CallMade, Given};
 use crate::scene::{CallKind, Scene, SceneThread};
 use usb_text::{push_hex, push_number};
 use usb_types::{Buf, Memory};
@@ -30,11 +30,11 @@ fn push_submit(report: &mut Buf, scene: &Scene, line: u32, urb: u32) -> Result<(
     report.append(b" ")
 }
 
-fn push_made(report: &mut Buf, scene: &Scene, made: &Made) -> Result<(), Memory>
+fn push_made(report: &mut Buf, scene: &Scene, made: &CallMade) -> Result<(), Memory>
     ensures { OnOk result (report.new ≡ report.old ++ made_text scene.now made.now) }
 {
     match (made.call.kind, made.answer) {
-        (CallKind::Submit(urb), Told::Code(code)) => {
+        (CallKind::Submit(urb), CallAnswer::Code(code)) => {
             push_submit(report, scene, made.call.line, urb)?;
             report.append(code.text().as_bytes())?;
             report.append(b"\n")
@@ -44,7 +44,7 @@ fn push_made(report: &mut Buf, scene: &Scene, made: &Made) -> Result<(), Memory>
 }
 
 // The line of a call, where the thread made it.
-fn push_made_by(report: &mut Buf, scene: &Scene, made: &Made, thread: u32) -> Result<(), Memory>
+fn push_made_by(report: &mut Buf, scene: &Scene, made: &CallMade, thread: u32) -> Result<(), Memory>
     ensures { OnOk result (report.new ≡ report.old ++ flat_map (made_text scene.now) (made_by thread (made.now ∷ []))) }
 {
     if made.thread == thread {
@@ -55,7 +55,7 @@ fn push_made_by(report: &mut Buf, scene: &Scene, made: &Made, thread: u32) -> Re
 }
 
 // The lines of a thread's calls.
-fn push_calls(report: &mut Buf, scene: &Scene, made: &[Made], thread: u32) -> Result<(), Memory>
+fn push_calls(report: &mut Buf, scene: &Scene, made: &[CallMade], thread: u32) -> Result<(), Memory>
     ensures { OnOk result (report.new ≡ report.old ++ flat_map (made_text scene.now) (made_by thread made.now)) }
 {
     for m in made {
@@ -67,7 +67,7 @@ fn push_calls(report: &mut Buf, scene: &Scene, made: &[Made], thread: u32) -> Re
 fn push_thread(
     report: &mut Buf,
     scene: &Scene,
-    made: &[Made],
+    made: &[CallMade],
     number: u32,
     thread: &SceneThread,
 ) -> Result<(), Memory>
@@ -113,7 +113,7 @@ fn push_all_given(report: &mut Buf, scene: &Scene, given: &[Given]) -> Result<()
     Ok(())
 }
 
-fn push_threads(report: &mut Buf, scene: &Scene, made: &[Made]) -> Result<(), Memory>
+fn push_threads(report: &mut Buf, scene: &Scene, made: &[CallMade]) -> Result<(), Memory>
     requires { length scene.now.threads < 2 ^ 32 }
     ensures { OnOk result (report.new ≡ report.old ++ threads_from scene.now made.now 0 scene.now.threads) }
 {
@@ -129,7 +129,7 @@ fn push_threads(report: &mut Buf, scene: &Scene, made: &[Made]) -> Result<(), Me
 pub fn push_report(
     report: &mut Buf,
     scene: &Scene,
-    made: &[Made],
+    made: &[CallMade],
     given: &[Given],
 ) -> Result<(), Memory>
     requires { length scene.now.threads < 2 ^ 32 }

@@ -4,7 +4,7 @@ ghost use Rattle.usb_machine.specs.Plain.{urbs_of, ends_of};
 ghost use Rattle.usb_run.specs.declared.scene.Scene.{Scene};
 ghost use Rattle.usb_run.specs.Prepared.{pass_of, len_in};
 ghost use Rattle.usb_run.specs.WellFormed.{IsWellFormed};
-ghost use Rattle.usb_run.specs.Line.{Far, served_end};
+ghost use Rattle.usb_run.specs.Line.{Progress, served_end};
 ghost use Rattle.usb_run.specs.Shows.{IsFit, AsMany, zeros, Shows, Submitted};
 
 use crate::place::Place;
@@ -46,7 +46,7 @@ impl LineRun<'_> {
         requires end { served_end < ends_of self.old.plain }
         ensures fit { IfOk result (λ code. IsFit self.new) }
         ensures counts { IfOk result (λ code. AsMany self.old.plain self.new.plain) }
-        ensures submitted { IfOk result (λ code. (s : Scene) (f : Far) (thread : ℕ) → IsWellFormed s → thread < length s.threads → pass ≡ pass_of s thread → urb.0 < length s.urbs → len ≡ len_in (slice_get s.urbs urb.0)
+        ensures submitted { IfOk result (λ code. (s : Scene) (f : Progress) (thread : ℕ) → IsWellFormed s → thread < length s.threads → pass ≡ pass_of s thread → urb.0 < length s.urbs → len ≡ len_in (slice_get s.urbs urb.0)
             → Shows s f self.old → Submitted s f thread line urb.0 code self.new) }
     {
         let code = code_in(

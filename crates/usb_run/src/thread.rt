@@ -3,10 +3,10 @@ ghost use Rattle.std.specs.Prelude.{◌≡◌, ◌<◌, ◌^◌, length, IfOk};
 ghost use Rattle.std.specs.List.{All};
 ghost use Rattle.usb_run.specs.Prepared.{pass_of};
 ghost use Rattle.usb_run.specs.WellFormed.{IsCall, IsWellFormed};
-ghost use Rattle.usb_run.specs.Line.{Far, IsLine};
-ghost use Rattle.usb_run.specs.Shows.{IsFit, AsMany, IsOf, IsAt, Shows, CallMade, CallsMade};
+ghost use Rattle.usb_run.specs.Line.{Progress, IsLine};
+ghost use Rattle.usb_run.specs.Shows.{IsFit, AsMany, IsOf, IsAt, Shows, MakesCall, MakesCalls};
 
-use crate::made::{Made, Told};
+use crate::made::{CallAnswer, CallMade};
 use crate::scene::{Call, CallKind, Scene};
 use crate::turn::LineRun;
 use std::alloc::Global;
@@ -34,7 +34,7 @@ impl LineRun<'_> {
         scene: &Scene,
         thread: u32,
         call: Call,
-    ) -> Result<Told, Memory>
+    ) -> Result<CallAnswer, Memory>
         requires good { IsWellFormed scene.now }
         requires there { thread < length scene.now.threads }
         requires called { IsCall scene.now call }
@@ -42,19 +42,19 @@ impl LineRun<'_> {
         requires counts { IsOf scene.now self.old.plain }
         ensures fit { IfOk result (λ told. IsFit self.new) }
         ensures counts { IfOk result (λ told. AsMany self.old.plain self.new.plain) }
-        ensures made { IfOk result (λ told. (f : Far) → IsLine scene.now f → Shows scene.now f self.old
-            → CallMade scene.now f record { thread = thread; call = call; answer = told } self.new) }
+        ensures made { IfOk result (λ told. (f : Progress) → IsLine scene.now f → Shows scene.now f self.old
+            → MakesCall scene.now f record { thread = thread; call = call; answer = told } self.new) }
     {
         match call.kind {
             CallKind::Submit(urb) => {
                 let len = scene.urbs.items()[urb as usize].len;
                 let pass = pass_of_thread(scene, thread);
                 let code = self.submit(alloc, pass, call.line, UrbId(urb), len)?;
-                Ok(Told::Code(code))
+                Ok(CallAnswer::Code(code))
             }
             CallKind::Serve => {
                 self.serve(alloc)?;
-                Ok(Told::Nothing)
+                Ok(CallAnswer::Nothing)
             }
         }
     }
@@ -66,7 +66,7 @@ impl LineRun<'_> {
         scene: &Scene,
         thread: u32,
         calls: &[Call],
-        made: &mut List<Made>,
+        made: &mut List<CallMade>,
     ) -> Result<(), Memory>
         requires good { IsWellFormed scene.now }
         requires there { thread < length scene.now.threads }
@@ -75,11 +75,11 @@ impl LineRun<'_> {
         requires counts { IsOf scene.now self.old.plain }
         ensures fit { IfOk result (λ _. IsFit self.new) }
         ensures counts { IfOk result (λ _. IsOf scene.now self.new.plain) }
-        ensures made { IfOk result (λ _. (f : Far) → IsAt scene.now f self.old made.old → CallsMade scene.now f thread calls.now self.new made.new) }
+        ensures made { IfOk result (λ _. (f : Progress) → IsAt scene.now f self.old made.old → MakesCalls scene.now f thread calls.now self.new made.new) }
     {
         for call in calls {
             let answer = self.make(alloc, scene, thread, *call)?;
-            made.push(Made {
+            made.push(CallMade {
                 thread,
                 call: *call,
                 answer,

@@ -6,9 +6,9 @@ ghost use Rattle.usb_machine.specs.Shapes.{HasWindow};
 ghost use Rattle.usb_run.specs.declared.scene.Scene.{Scene};
 ghost use Rattle.usb_run.specs.Prepared.{machine_of};
 ghost use Rattle.usb_run.specs.WellFormed.{IsWellFormed};
-ghost use Rattle.usb_run.specs.Run.{Round, round_entries};
+ghost use Rattle.usb_run.specs.Run.{Giveback, giveback_entries};
 ghost use Rattle.usb_run.specs.Given.{moved_bytes};
-ghost use Rattle.usb_run.specs.Line.{Far};
+ghost use Rattle.usb_run.specs.Line.{Progress};
 ghost use Rattle.usb_run.specs.Shows.{code_of, told_code, held, IsFit, AsMany, CanGive, Shows, Turned, Served};
 
 use crate::device::Scripted;
@@ -57,8 +57,8 @@ pub fn code_in(answer: Answer) -> Code
 fn give_back(plain: &mut Plain, code: Code, number: u64) -> Code
     requires { 0 < urbs_of plain.old }
     ensures counts { AsMany plain.old plain.new }
-    ensures given { (s : Scene) (h : List Entry) (r : Round) → Stands plain.old (machine_of s) h → CanGive s h r → r.status ≡ code → r.sent.number ≡ number
-        → (result ≡ code) × Stands plain.new (machine_of s) (h ++ round_entries s r) }
+    ensures given { (s : Scene) (h : List Entry) (r : Giveback) → Stands plain.old (machine_of s) h → CanGive s h r → r.status ≡ code → r.sent.number ≡ number
+        → (result ≡ code) × Stands plain.new (machine_of s) (h ++ giveback_entries s r) }
 {
     plain.step(SERVER, Event::Finish { urb: URB, code });
     let status = code_in(plain.step(SERVER, Event::Give { urb: URB }));
@@ -85,7 +85,7 @@ impl LineRun<'_> {
         ensures fit { IfOk result (λ back. IsFit self.new) }
         ensures counts { IfOk result (λ back. AsMany self.old.plain self.new.plain) }
         ensures falls { IfOk result (λ back. back ≡ true → held self.new.place < held self.old.place) }
-        ensures turned { IfOk result (λ back. (s : Scene) (f : Far) → IsWellFormed s → Shows s f self.old → Turned s f back self.new) }
+        ensures turned { IfOk result (λ back. (s : Scene) (f : Progress) → IsWellFormed s → Shows s f self.old → Turned s f back self.new) }
     {
         let place = mem::replace(&mut self.place, Place::Out);
         let Some(mut t) = take_in(&mut self.plain, place) else {
@@ -112,7 +112,7 @@ impl LineRun<'_> {
         requires { IsFit self.old }
         ensures fit { IfOk result (λ _. IsFit self.new) }
         ensures counts { IfOk result (λ _. AsMany self.old.plain self.new.plain) }
-        ensures served { IfOk result (λ _. (s : Scene) (f : Far) → IsWellFormed s → Shows s f self.old → Served s f self.new) }
+        ensures served { IfOk result (λ _. (s : Scene) (f : Progress) → IsWellFormed s → Shows s f self.old → Served s f self.new) }
     {
         loop {
             if !self.turn(alloc)? {

@@ -11,7 +11,8 @@ const NO_SCENE: Status = Status::BadScene {
     cause: Cause::Form,
 };
 
-const HEAD: &str = "scene 1\ndevice d raw\nep 81 bulk 64 0\nanswer 81 p:0102030405060708\nurb a d 81 len 8\nthread t\n";
+const HEAD: &str =
+    "scene 1\ndevice d raw\nep 81 bulk 64 0\nanswer 81 p:0102030405060708\nurb a d 81 len 8\nthread t\n";
 
 const GIVEN: &str = "given\na 0 8 rest 0102030405060708\n";
 
@@ -61,13 +62,27 @@ fn a_scene_prints_its_calls_and_what_was_given_back(rt: HostRuntime) -> Result<(
     let alloc = rt.alloc();
     let rows = [
         ("submit a\nserve\n", "thread t\n7 submit a 0\n", GIVEN),
-        ("submit a\nsubmit a\nserve\n", "thread t\n7 submit a 0\n8 submit a -EBUSY\n", GIVEN),
-        ("submit a\nserve\nsubmit a\nserve\n", "thread t\n7 submit a 0\n9 submit a 0\n", GIVEN),
+        (
+            "submit a\nsubmit a\nserve\n",
+            "thread t\n7 submit a 0\n8 submit a -EBUSY\n",
+            GIVEN,
+        ),
+        (
+            "submit a\nserve\nsubmit a\nserve\n",
+            "thread t\n7 submit a 0\n9 submit a 0\n",
+            GIVEN,
+        ),
         ("submit a\n", "thread t\n7 submit a 0\n", ""),
         ("serve # nothing is queued\n", "thread t\n", ""),
     ];
     for (calls, threads, given) in rows {
-        let (status, text) = ended(&rt, alloc, &["serial"], joined(alloc, &[HEAD, calls])?, &GOOD)?;
+        let (status, text) = ended(
+            &rt,
+            alloc,
+            &["serial"],
+            joined(alloc, &[HEAD, calls])?,
+            &GOOD,
+        )?;
         assert_eq!(rt; status, Status::Done, "{calls}");
         let wanted = joined(alloc, &[threads, given])?;
         assert_eq!(rt; text.as_bytes(), wanted.as_slice(), "{calls}");
@@ -81,7 +96,10 @@ fn a_scene_may_have_less_or_more_than_the_first(rt: HostRuntime) -> Result<(), F
     let rows = [
         ("scene 1", ""),
         ("scene 1\n", ""),
-        ("# no device\r\nscene\t1\r\nthread t\r\nserve\r\n", "thread t\n"),
+        (
+            "# no device\r\nscene\t1\r\nthread t\r\nserve\r\n",
+            "thread t\n",
+        ),
         ("scene 1\ndevice d raw\nthread hub", "thread hub\n"),
         (
             "scene 1\ndevice d raw\nep 81 bulk 2 0\nanswer 81 p:0102 nak\nanswer 81 p:03\nurb a d 81 len 8\nthread t\nsubmit a\nserve\nserve",
@@ -105,11 +123,19 @@ fn replies_move_a_transfer(rt: HostRuntime) -> Result<(), Fail> {
     let alloc = rt.alloc();
     let rows = [
         ("p:01020304 p:0506", "8", "given\na 0 6 rest 010203040506\n"),
-        ("p:01020304 p:05060708", "8", "given\na 0 8 rest 0102030405060708\n"),
+        (
+            "p:01020304 p:05060708",
+            "8",
+            "given\na 0 8 rest 0102030405060708\n",
+        ),
         ("p:01020304 p:", "8", "given\na 0 4 rest 01020304\n"),
         ("p:0102030405", "8", "given\na -EOVERFLOW 0 rest -\n"),
         ("p:010203", "2", "given\na -EOVERFLOW 0 rest -\n"),
-        ("p:01020304 p:0506", "5", "given\na -EOVERFLOW 4 rest 01020304\n"),
+        (
+            "p:01020304 p:0506",
+            "5",
+            "given\na -EOVERFLOW 4 rest 01020304\n",
+        ),
         ("p:01020304 stall", "8", "given\na -EPIPE 4 rest 01020304\n"),
         ("error p:01", "8", "given\na -EPROTO 0 rest -\n"),
         ("p:", "0", "given\na 0 0 rest -\n"),

@@ -1,5 +1,5 @@
 use Rattle.std.proofs.Common.{◌≡◌, ◌++◌, List, ap, ◌∙◌}
-use Rattle.usb_run.specs.declared.made.Made.{Made}
+use Rattle.usb_run.specs.declared.made.CallMade.{CallMade}
 use Rattle.usb_run.specs.declared.made.Given.{Given}
 use Rattle.usb_run.specs.Report.{text_of}
 use Rattle.usb_run.proofs.Lines.{line_is_run}

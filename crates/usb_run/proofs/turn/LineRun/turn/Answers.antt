@@ -5,13 +5,13 @@ use Rattle.usb_run.specs.declared.scene.Scene.{Scene}
 use Rattle.usb_run.specs.declared.place.Place.{Place}
 use Rattle.usb_run.specs.declared.turn.LineRun.{LineRun}
 use Rattle.usb_run.specs.Prepared.{machine_of}
-use Rattle.usb_run.specs.Line.{Far, taken}
+use Rattle.usb_run.specs.Line.{Progress, taken}
 use Rattle.usb_run.specs.Shows.{in_place, Lies, Shows}
 use Rattle.usb_run.proofs.Turning.{shows_taken, turned_none, has_urb, turned_waiting, can_give, same_number, turned_given}
 use Rattle.usb_run.proofs.turn.LineRun.turn.Goals as goal
 
 -- what take_in left
-took : (s : Scene) (f : Far) (run : LineRun) (place : Place) (plain : Plain) → place ≡ run.place
+took : (s : Scene) (f : Progress) (run : LineRun) (place : Place) (plain : Plain) → place ≡ run.place
     → (Stands run.plain (machine_of s) f.history → Lies s f place → Stands plain (machine_of s) (taken s f).history) → Shows s f run → Stands plain (machine_of s) (taken s f).history
 took s f run place plain is taken shows = taken shows.stands (subst (Lies s f) (sym is) shows.lies)
 
