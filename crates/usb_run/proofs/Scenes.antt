@@ -1,9 +1,9 @@
 -- What a line adds to a scene.
-use Rattle.std.proofs.Common.{◌≡◌, ℕ, ◌+◌, ◌-◌, ◌≤◌, true, false, List, [], ◌∷◌, ◌++◌, length, suc, refl, sym, ap, ◌∙◌, arith}
+use Rattle.std.proofs.Common.{◌≡◌, ℕ, ◌+◌, ◌-◌, true, false, List, [], ◌∷◌, ◌++◌, length, suc, refl, ap, arith}
 use Rattle.std.specs.Prelude.{nat_le, nat_lt, not, ◌&&◌, unwrap_or}
 use Rattle.std.specs.List.{sum_by}
 use Rattle.std.proofs.lemmas.Bool.{and_parts, ltb-true, leb-true}
-use Rattle.std.proofs.lemmas.List.{length_push, nil_from_length}
+use Rattle.std.proofs.lemmas.List.{length_push}
 use Rattle.std.proofs.lemmas.List.Sums.{sum_by-cons, sum_by_push}
 use Rattle.usb_run.specs.declared.scene.Scene.{Scene}
 use Rattle.usb_run.specs.declared.scene.SceneDevice.{SceneDevice}
@@ -11,13 +11,11 @@ use Rattle.usb_run.specs.declared.scene.SceneThread.{SceneThread}
 use Rattle.usb_run.specs.declared.scene.SceneUrb.{SceneUrb}
 use Rattle.usb_run.specs.declared.scene.Answers.{Answers}
 use Rattle.usb_run.specs.declared.scene.Call.{Call}
-use Rattle.usb_run.specs.declared.scene.CallKind.{CallKind}
 use Rattle.usb_run.specs.declared.scene.CallKind.TheVariants as call
-use Rattle.usb_machine.specs.declared.layout.Shape.{Shape}
 use Rattle.usb_run.specs.declared.statement.Statement.{Statement}
 use Rattle.usb_run.specs.declared.statement.Statement.TheVariants as say
 use Rattle.usb_run.specs.Statements.{is_empty, keyword_said}
-use Rattle.usb_run.specs.Rules.{on_last, with_end, with_answers, with_call, bulk_end, may_stand, is_within, scene_with, device_number, urb_number, HasRoom, replies_of, replies_in, all_replies, calls_in, all_calls, replies_said, calls_said, ends_of, last_device}
+use Rattle.usb_run.specs.Rules.{on_last, with_end, with_answers, with_call, bulk_end, may_stand, is_within, scene_with, device_number, urb_number, HasRoom, replies_of, replies_in, all_replies, calls_in, all_calls, replies_said, calls_said}
 
 pub on_last_push : {X : Type 0} (f : X → X) (xs : List X) (x : X) → on_last f (xs ++ x ∷ []) ≡ xs ++ f x ∷ []
 on_last_push f [] x = refl

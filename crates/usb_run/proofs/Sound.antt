@@ -1,11 +1,11 @@
 -- Every scene that is read is well formed.
-use Rattle.std.proofs.Common.{◌≡◌, ℕ, ◌+◌, ◌-◌, ◌<◌, ◌≤◌, ◌^◌, ◌⊎◌, inl, inr, Bool, true, false, cond, eqb, List, [], ◌∷◌, ◌++◌, length, suc, Option, Some, None, Ok, Err, Result, refl, sym, ap, ◌∙◌, arith, subst, lit<, lit≤}
+use Rattle.std.proofs.Common.{◌≡◌, ℕ, ◌-◌, ◌<◌, ◌≤◌, ◌^◌, ◌⊎◌, inl, inr, Bool, true, false, cond, eqb, List, [], ◌∷◌, ◌++◌, length, suc, Option, Some, None, refl, sym, ap, ◌∙◌, arith, lit≤}
 use Rattle.std.specs.Prelude.{nat_le, nat_lt, not, ◌&&◌, unwrap_or, position, slice_get, is_some}
 use Rattle.std.specs.List.{list_any, position_or_len, All}
 use Rattle.std.specs.Str.{bytes_eq}
 use Rattle.std.proofs.lemmas.Bool.{and_parts, ltb-true, leb-true, eq-eqb, ne_eqb}
 use Rattle.std.proofs.Math.Bool.{or-false}
-use Rattle.std.proofs.lemmas.List.{length_push, nil_from_length}
+use Rattle.std.proofs.lemmas.List.{length_push}
 use Rattle.std.proofs.lemmas.List.Elements.{All-nil, All-cons, All-push}
 use Rattle.usb_machine.specs.declared.layout.Shape.{Shape}
 use Rattle.usb_run.specs.declared.scene.Scene.{Scene}
@@ -13,7 +13,6 @@ use Rattle.usb_run.specs.declared.scene.SceneDevice.{SceneDevice}
 use Rattle.usb_run.specs.declared.scene.SceneThread.{SceneThread}
 use Rattle.usb_run.specs.declared.scene.SceneUrb.{SceneUrb}
 use Rattle.usb_run.specs.declared.scene.Answers.{Answers}
-use Rattle.usb_run.specs.declared.scene.Item.{Item}
 use Rattle.usb_run.specs.declared.scene.Call.{Call}
 use Rattle.usb_run.specs.declared.scene.CallKind.{CallKind}
 use Rattle.usb_run.specs.declared.scene.CallKind.TheVariants as call
@@ -21,11 +20,11 @@ use Rattle.usb_run.specs.declared.statement.Statement.{Statement}
 use Rattle.usb_run.specs.declared.statement.Statement.TheVariants as say
 use Rattle.usb_run.specs.declared.rules.Cause.{Cause}
 use Rattle.usb_run.specs.declared.rules.Cause.TheVariants as cause
-use Rattle.usb_run.specs.Prepared.{home_at, is_at, control_end, shapes_from}
+use Rattle.usb_run.specs.Prepared.{is_at, control_end, shapes_from}
 use Rattle.usb_run.specs.WellFormed.{IsBulkIn, IsItem, IsDevice, IsUrb, IsOfUrb, IsCall, IsWellFormed}
 use Rattle.usb_run.specs.Statements.{is_empty, keyword_said}
 use Rattle.usb_run.specs.Rules.{on_last, with_end, with_answers, with_call, bulk_end, may_stand, names_stand, is_new, is_within, statement_cause, scene_with, device_number, urb_number, numbered_device, has_end, ends_of, last_device}
-use Rattle.usb_run.proofs.Formed.{IsInAddress, IsInEnd, IsSound}
+use Rattle.usb_run.proofs.Formed.{IsSound}
 
 nil : {X : Type 0} (xs : List X) → is_empty xs ≡ true → xs ≡ []
 nil [] h = refl

@@ -1,5 +1,5 @@
 -- The text of one thread more.
-use Rattle.std.proofs.Common.{ℕ, zero, suc, ◌≡◌, ◌+◌, ◌<◌, List, [], ◌∷◌, ◌++◌, length, take, get_or, refl, sym, ap, ◌∙◌, subst, arith, append-nil, append_assoc, add-zero, add-one}
+use Rattle.std.proofs.Common.{ℕ, zero, suc, ◌≡◌, ◌+◌, ◌<◌, List, [], ◌∷◌, ◌++◌, length, take, get_or, sym, ap, ◌∙◌, arith, append-nil, append_assoc, add-zero, add-one}
 use Rattle.usb_run.specs.declared.scene.Scene.{Scene}
 use Rattle.usb_run.specs.declared.scene.SceneThread.{SceneThread}
 use Rattle.usb_run.specs.declared.made.CallMade.{CallMade}

@@ -1,5 +1,5 @@
 -- What the program's call does, status by status.
-use Rattle.std.specs.Prelude.{◌≡◌, ◌≢◌, ◌≤◌, ℕ, List, ◌++◌, length, Option, Result, Ok, Err}
+use Rattle.std.specs.Prelude.{◌≡◌, ◌≢◌, ◌≤◌, ℕ, List, ◌++◌, length, Option, Ok, Err}
 use Rattle.std.specs.Io.KnownBytes.{Appends}
 use Rattle.usb_run.specs.declared.input.TheConstants.{INPUT_LIMIT}
 use Rattle.usb_run.specs.declared.scene.Scene.{Scene}
@@ -8,7 +8,7 @@ use Rattle.usb_run.specs.Read.{scene_of}
 use Rattle.usb_run.specs.Run.{IsRun}
 use Rattle.usb_run.specs.Line.{Progress, IsLineRun}
 use Rattle.usb_run.specs.Report.{report_of}
-use Rattle.usb_run.specs.Io.{ReadsAll, ReadsTooMany, WritesSome}
+use Rattle.usb_run.specs.Io.{ReadsAll, WritesSome}
 
 -- the report of the scene's run in line order was added. That run is a run of the scene
 pub record AddsReport (s : Scene) (old new : List ℕ) : Type 0 where

@@ -1,4 +1,4 @@
-use Rattle.std.proofs.Common.{◌≡◌, ◌++◌, sym, ap, ◌∙◌, arith, append_assoc}
+use Rattle.std.proofs.Common.{◌++◌, sym, ap, ◌∙◌, arith, append_assoc}
 use Rattle.usb_run.specs.Report.{thread_text, threads_from}
 use Rattle.usb_run.proofs.ThreadTexts.{thread_more}
 use Rattle.usb_run.proofs.report.push_threads.Goals as goal

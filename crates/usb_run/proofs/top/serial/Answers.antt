@@ -1,6 +1,4 @@
-use Rattle.std.proofs.Common.{◌≡◌, ◌++◌, List, ap, ◌∙◌}
-use Rattle.usb_run.specs.declared.made.CallMade.{CallMade}
-use Rattle.usb_run.specs.declared.made.Given.{Given}
+use Rattle.std.proofs.Common.{◌++◌, ◌∙◌}
 use Rattle.usb_run.specs.Report.{text_of}
 use Rattle.usb_run.proofs.Lines.{line_is_run}
 use Rattle.usb_run.proofs.top.serial.Goals as goal
