@@ -1,5 +1,6 @@
 //! The program's call over memory: worked scenes, ends that fail, words and texts that are refused.
 use std::alloc::Global;
+use std::process::Abort;
 use std::sync::Wait;
 use std::test::Fail;
 use std::thread::Threads;
@@ -14,7 +15,7 @@ const NO_SCENE: Status = Status::BadScene {
 const HEAD: &str =
     "scene 1\ndevice d raw\nep 81 bulk 64 0\nanswer 81 p:0102030405060708\nurb a d 81 len 8\nthread t\n";
 
-const GIVEN: &str = "given\na 0 8 rest 0102030405060708\n";
+const WHOLE: &str = "thread t\n7 submit a 0\ngiven\na 0 8 rest 0102030405060708\n";
 
 // The ends of one call: the numbers of the reads and of the writes that fail, and the sink's room.
 #[derive(Clone, Copy)]
@@ -36,8 +37,8 @@ fn ended<R: Threads + Wait + Sync>(
     alloc: Global,
     words: &[&str],
     scene: Vec<u8>,
-    ends: &Ends<'_>,
-) -> Result<(Status, String), Fail> {
+    ends: Ends<'_>,
+) -> Result<(Status, Vec<u8>), Fail> {
     let mut list = Vec::new(alloc);
     for word in words {
         list.push(String::from_str(alloc, word)?)?;
@@ -45,54 +46,56 @@ fn ended<R: Threads + Wait + Sync>(
     let mut input = MemSource::new(Buf::of(scene), List::of(ends.reads.to_vec(alloc)?));
     let mut out = MemSink::new(alloc, ends.room, List::of(ends.writes.to_vec(alloc)?))?;
     let status = usbrun(rt, alloc, &list, &mut input, &mut out, &Free);
-    let text = String::from_utf8(out.bytes().to_vec(alloc)?)?;
-    Ok((status, text))
+    Ok((status, out.bytes().to_vec(alloc)?))
 }
 
-fn joined(alloc: Global, parts: &[&str]) -> Result<Vec<u8>, Fail> {
-    let mut text = Vec::new(alloc);
-    for part in parts {
-        text.extend_from_slice(part.as_bytes())?;
-    }
+fn joined(alloc: Global, front: &str, middle: &str, back: &str) -> Result<Vec<u8>, Fail> {
+    let mut text = front.as_bytes().to_vec(alloc)?;
+    text.extend_from_slice(middle.as_bytes())?;
+    text.extend_from_slice(back.as_bytes())?;
     Ok(text)
 }
 
-#[test]
-fn a_scene_prints_its_calls_and_what_was_given_back(rt: HostRuntime) -> Result<(), Fail> {
+// Each scene, between a front and a back, ends so and has this report behind a common beginning.
+fn check_reports<R: Abort + AllocGlobal + Threads + Wait + Sync>(
+    rt: &R,
+    front: &str,
+    back: &str,
+    status: Status,
+    beginning: &str,
+    rows: &[(&str, &str)],
+) -> Result<(), Fail> {
     let alloc = rt.alloc();
-    let rows = [
-        ("submit a\nserve\n", "thread t\n7 submit a 0\n", GIVEN),
-        (
-            "submit a\nsubmit a\nserve\n",
-            "thread t\n7 submit a 0\n8 submit a -EBUSY\n",
-            GIVEN,
-        ),
-        (
-            "submit a\nserve\nsubmit a\nserve\n",
-            "thread t\n7 submit a 0\n9 submit a 0\n",
-            GIVEN,
-        ),
-        ("submit a\n", "thread t\n7 submit a 0\n", ""),
-        ("serve # nothing is queued\n", "thread t\n", ""),
-    ];
-    for (calls, threads, given) in rows {
-        let (status, text) = ended(
-            &rt,
-            alloc,
-            &["serial"],
-            joined(alloc, &[HEAD, calls])?,
-            &GOOD,
-        )?;
-        assert_eq!(rt; status, Status::Done, "{calls}");
-        let wanted = joined(alloc, &[threads, given])?;
-        assert_eq!(rt; text.as_bytes(), wanted.as_slice(), "{calls}");
+    for (middle, report) in rows {
+        let scene = joined(alloc, front, middle, back)?;
+        let wanted = joined(alloc, beginning, report, "")?;
+        let (got, text) = ended(rt, alloc, &["serial"], scene, GOOD)?;
+        assert_eq!(rt; got, status, "{middle}");
+        assert_eq!(rt; text.as_slice(), wanted.as_slice(), "{middle}");
     }
     Ok(())
 }
 
 #[test]
+fn a_scene_prints_its_calls_and_what_was_given_back(rt: HostRuntime) -> Result<(), Fail> {
+    let rows = [
+        ("submit a\nserve\n", WHOLE),
+        (
+            "submit a\nsubmit a\nserve\n",
+            "thread t\n7 submit a 0\n8 submit a -EBUSY\ngiven\na 0 8 rest 0102030405060708\n",
+        ),
+        (
+            "submit a\nserve\nsubmit a\nserve\n",
+            "thread t\n7 submit a 0\n9 submit a 0\ngiven\na 0 8 rest 0102030405060708\n",
+        ),
+        ("submit a\n", "thread t\n7 submit a 0\n"),
+        ("serve # nothing is queued", "thread t\n"),
+    ];
+    check_reports(&rt, HEAD, "", Status::Done, "", &rows)
+}
+
+#[test]
 fn a_scene_may_have_less_or_more_than_the_first(rt: HostRuntime) -> Result<(), Fail> {
-    let alloc = rt.alloc();
     let rows = [
         ("scene 1", ""),
         ("scene 1\n", ""),
@@ -100,7 +103,6 @@ fn a_scene_may_have_less_or_more_than_the_first(rt: HostRuntime) -> Result<(), F
             "# no device\r\nscene\t1\r\nthread t\r\nserve\r\n",
             "thread t\n",
         ),
-        ("scene 1\ndevice d raw\nthread hub", "thread hub\n"),
         (
             "scene 1\ndevice d raw\nep 81 bulk 2 0\nanswer 81 p:0102 nak\nanswer 81 p:03\nurb a d 81 len 8\nthread t\nsubmit a\nserve\nserve",
             "thread t\n8 submit a 0\ngiven\na 0 3 rest 010203\n",
@@ -110,124 +112,175 @@ fn a_scene_may_have_less_or_more_than_the_first(rt: HostRuntime) -> Result<(), F
             "thread hub\n6 submit a 0\n",
         ),
     ];
-    for (scene, wanted) in rows {
-        let (status, text) = ended(&rt, alloc, &["serial"], joined(alloc, &[scene])?, &GOOD)?;
-        assert_eq!(rt; status, Status::Done, "{scene}");
-        assert_eq!(rt; text.as_str(), wanted, "{scene}");
-    }
-    Ok(())
+    check_reports(&rt, "", "", Status::Done, "", &rows)
 }
 
 #[test]
 fn replies_move_a_transfer(rt: HostRuntime) -> Result<(), Fail> {
-    let alloc = rt.alloc();
+    let front = "scene 1\ndevice d raw\nep 8a bulk 4 0\nanswer 8A ";
+    let back = "\nthread t\nsubmit a\nserve\n";
     let rows = [
-        ("p:01020304 p:0506", "8", "given\na 0 6 rest 010203040506\n"),
         (
-            "p:01020304 p:05060708",
-            "8",
+            "p:01020304 p:0506\nurb a d 8A len 8",
+            "given\na 0 6 rest 010203040506\n",
+        ),
+        (
+            "p:01020304 p:05060708\nurb a d 8A len 8",
             "given\na 0 8 rest 0102030405060708\n",
         ),
-        ("p:01020304 p:", "8", "given\na 0 4 rest 01020304\n"),
-        ("p:0102030405", "8", "given\na -EOVERFLOW 0 rest -\n"),
-        ("p:010203", "2", "given\na -EOVERFLOW 0 rest -\n"),
         (
-            "p:01020304 p:0506",
-            "5",
+            "p:01020304 p:\nurb a d 8A len 8",
+            "given\na 0 4 rest 01020304\n",
+        ),
+        (
+            "p:0102030405\nurb a d 8A len 8",
+            "given\na -EOVERFLOW 0 rest -\n",
+        ),
+        (
+            "p:010203\nurb a d 8A len 2",
+            "given\na -EOVERFLOW 0 rest -\n",
+        ),
+        (
+            "p:01020304 p:0506\nurb a d 8A len 5",
             "given\na -EOVERFLOW 4 rest 01020304\n",
         ),
-        ("p:01020304 stall", "8", "given\na -EPIPE 4 rest 01020304\n"),
-        ("error p:01", "8", "given\na -EPROTO 0 rest -\n"),
-        ("p:", "0", "given\na 0 0 rest -\n"),
-        ("nak p:01", "8", ""),
-        ("p:01020304", "8", ""),
+        (
+            "p:01020304 stall\nurb a d 8A len 8",
+            "given\na -EPIPE 4 rest 01020304\n",
+        ),
+        (
+            "error p:01\nurb a d 8A len 8",
+            "given\na -EPROTO 0 rest -\n",
+        ),
+        ("p:\nurb a d 8A", "given\na 0 0 rest -\n"),
+        ("nak p:01\nurb a d 8A len 8", ""),
+        ("p:01020304\nurb a d 8A len 8", ""),
     ];
-    for (items, len, given) in rows {
-        let scene = joined(
-            alloc,
-            &[
-                "scene 1\ndevice d raw\nep 8a bulk 4 0\nanswer 8A ",
-                items,
-                "\nurb a d 8A len ",
-                len,
-                "\nthread t\nsubmit a\nserve\n",
-            ],
-        )?;
-        let (status, text) = ended(&rt, alloc, &["serial"], scene, &GOOD)?;
-        assert_eq!(rt; status, Status::Done, "{items}");
-        let wanted = joined(alloc, &["thread t\n7 submit a 0\n", given])?;
-        assert_eq!(rt; text.as_bytes(), wanted.as_slice(), "{items}");
-    }
+    check_reports(
+        &rt,
+        front,
+        back,
+        Status::Done,
+        "thread t\n7 submit a 0\n",
+        &rows,
+    )
+}
+
+#[test]
+fn a_text_that_is_no_scene_is_refused(rt: HostRuntime) -> Result<(), Fail> {
+    let rows = [
+        ("", ""),
+        ("scene 9", ""),
+        ("scene 1\nserve", ""),
+        ("scene 1\ndevice d raw\ndevice e raw", ""),
+        (
+            "scene 1\ndevice d raw\nep 81 bulk 64 0\nep 82 bulk 64 0",
+            "",
+        ),
+        (
+            "scene 1\ndevice d raw\nep 81 bulk 64 0\nanswer 81 2*nak",
+            "",
+        ),
+        ("scene 1\ndevice d raw\nep 81 bulk 64 0\nanswer 81", ""),
+        ("scene 1\ndevice d raw\nep 81 bulk 64 00", ""),
+        ("scene 1\ndevice d raw\nep 01 bulk 64 0", ""),
+        ("scene 1\ndevice d raw\nep 81 bulk 0 0", ""),
+        (
+            "scene 1\ndevice d raw\nep 81 bulk 64 0\nurb a d 81 len 16385",
+            "",
+        ),
+        ("scene 1\nthread t\nthread u", ""),
+        ("scene 1\nthread t\nsubmit a", ""),
+    ];
+    check_reports(&rt, "", "", NO_SCENE, "", &rows)
+}
+
+// The first scene between these ends: the status, and what is written.
+fn check_ends<R: Abort + AllocGlobal + Threads + Wait + Sync>(
+    rt: &R,
+    ends: Ends<'_>,
+    status: Status,
+    written: &str,
+) -> Result<(), Fail> {
+    let alloc = rt.alloc();
+    let scene = joined(alloc, HEAD, "submit a\nserve\n", "")?;
+    let (got, text) = ended(rt, alloc, &["serial"], scene, ends)?;
+    assert_eq!(rt; got, status);
+    assert_eq!(rt; text.as_slice(), written.as_bytes());
     Ok(())
 }
 
 #[test]
 fn each_failing_read_and_write_is_told(rt: HostRuntime) -> Result<(), Fail> {
-    let alloc = rt.alloc();
-    let whole = "thread t\n7 submit a 0\ngiven\na 0 8 rest 0102030405060708\n";
-    let rows: [(&[u32], &[u32], u32, Status, &str); 6] = [
-        (&[1], &[], 4096, Status::ReadFault, ""),
-        (&[2], &[], 4096, Status::ReadFault, ""),
-        (&[3], &[2], 4096, Status::Done, whole),
-        (&[], &[1], 4096, Status::WriteFault, ""),
-        (&[], &[2], 10, Status::WriteFault, "thread t\n7"),
-        (&[], &[], 10, Status::WriteFault, "thread t\n7"),
-    ];
-    for (reads, writes, room, wanted, written) in rows {
-        let ends = Ends {
-            reads,
-            writes,
-            room,
-        };
-        let scene = joined(alloc, &[HEAD, "submit a\nserve\n"])?;
-        let (status, text) = ended(&rt, alloc, &["serial"], scene, &ends)?;
-        assert_eq!(rt; status, wanted, "{reads:?} {writes:?}");
-        assert_eq!(rt; text.as_str(), written, "{reads:?} {writes:?}");
-    }
-    Ok(())
+    check_ends(
+        &rt,
+        Ends {
+            reads: &[1],
+            ..GOOD
+        },
+        Status::ReadFault,
+        "",
+    )?;
+    check_ends(
+        &rt,
+        Ends {
+            reads: &[2],
+            ..GOOD
+        },
+        Status::ReadFault,
+        "",
+    )?;
+    check_ends(
+        &rt,
+        Ends {
+            reads: &[3],
+            writes: &[2],
+            ..GOOD
+        },
+        Status::Done,
+        WHOLE,
+    )?;
+    check_ends(
+        &rt,
+        Ends {
+            writes: &[1],
+            ..GOOD
+        },
+        Status::WriteFault,
+        "",
+    )?;
+    check_ends(
+        &rt,
+        Ends {
+            writes: &[2],
+            room: 10,
+            ..GOOD
+        },
+        Status::WriteFault,
+        "thread t\n7",
+    )?;
+    check_ends(
+        &rt,
+        Ends { room: 10, ..GOOD },
+        Status::WriteFault,
+        "thread t\n7",
+    )
 }
 
 #[test]
 fn other_words_are_refused(rt: HostRuntime) -> Result<(), Fail> {
     let alloc = rt.alloc();
-    let rows: [&[&str]; 6] = [
+    let rows: [&[&str]; 5] = [
         &[],
         &["serial", "now"],
         &["Serial"],
         &["run"],
-        &["list"],
         &["gen", "4294967296"],
     ];
     for words in rows {
-        let (status, text) = ended(&rt, alloc, words, joined(alloc, &[HEAD])?, &GOOD)?;
+        let (status, text) = ended(&rt, alloc, words, joined(alloc, HEAD, "", "")?, GOOD)?;
         assert_eq!(rt; status, Status::BadWords);
-        assert_eq!(rt; text.as_str(), "");
-    }
-    Ok(())
-}
-
-#[test]
-fn a_text_that_is_no_scene_is_refused(rt: HostRuntime) -> Result<(), Fail> {
-    let alloc = rt.alloc();
-    let rows = [
-        "",
-        "scene 9",
-        "scene 1\nserve",
-        "scene 1\ndevice d raw\ndevice e raw",
-        "scene 1\ndevice d raw\nep 81 bulk 64 0\nep 82 bulk 64 0",
-        "scene 1\ndevice d raw\nep 81 bulk 64 0\nanswer 81 2*nak",
-        "scene 1\ndevice d raw\nep 81 bulk 64 0\nanswer 81",
-        "scene 1\ndevice d raw\nep 81 bulk 64 00",
-        "scene 1\ndevice d raw\nep 01 bulk 64 0",
-        "scene 1\ndevice d raw\nep 81 bulk 0 0",
-        "scene 1\ndevice d raw\nep 81 bulk 64 0\nurb a d 81 len 16385",
-        "scene 1\nthread t\nthread u",
-        "scene 1\nthread t\nsubmit a",
-    ];
-    for scene in rows {
-        let (status, text) = ended(&rt, alloc, &["serial"], joined(alloc, &[scene])?, &GOOD)?;
-        assert_eq!(rt; status, NO_SCENE, "{scene}");
-        assert_eq!(rt; text.as_str(), "", "{scene}");
+        assert_eq!(rt; text.len(), 0);
     }
     Ok(())
 }
@@ -236,28 +289,27 @@ fn a_text_that_is_no_scene_is_refused(rt: HostRuntime) -> Result<(), Fail> {
 fn an_input_has_a_limit(rt: HostRuntime) -> Result<(), Fail> {
     let alloc = rt.alloc();
     for (size, wanted) in [(1_048_576, Status::Done), (1_048_577, NO_SCENE)] {
-        let mut scene = joined(alloc, &["scene 1\n"])?;
+        let mut scene = joined(alloc, "scene 1\n", "", "")?;
         scene.resize(size, b' ')?;
-        let (status, text) = ended(&rt, alloc, &["serial"], scene, &GOOD)?;
+        let (status, text) = ended(&rt, alloc, &["serial"], scene, GOOD)?;
         assert_eq!(rt; status, wanted);
-        assert_eq!(rt; text.as_str(), "");
+        assert_eq!(rt; text.len(), 0);
     }
     Ok(())
 }
 
 #[test]
-fn each_fault_has_its_text_and_number(rt: HostRuntime) -> Result<(), Fail> {
+fn each_fault_has_its_text(rt: HostRuntime) -> Result<(), Fail> {
     let alloc = rt.alloc();
     let rows = [
-        (Status::Done, 0, ""),
-        (Status::ReadFault, 1, "usbrun: read fault"),
-        (Status::WriteFault, 2, "usbrun: write fault"),
-        (Status::BadWords, 3, "usbrun: bad words"),
-        (NO_SCENE, 4, "usbrun: line 1: Form"),
-        (Status::Memory, 6, "usbrun: no memory"),
+        (Status::Done, ""),
+        (Status::ReadFault, "usbrun: read fault"),
+        (Status::WriteFault, "usbrun: write fault"),
+        (Status::BadWords, "usbrun: bad words"),
+        (NO_SCENE, "usbrun: line 1: Form"),
+        (Status::Memory, "usbrun: no memory"),
     ];
-    for (status, number, text) in rows {
-        assert_eq!(rt; status.number(), number, "{text}");
+    for (status, text) in rows {
         let printed = format!(in alloc; "{status}")?;
         assert_eq!(rt; printed.as_str(), text);
     }
