@@ -1,5 +1,5 @@
 -- What a step needs to know, so that the object stands for the history with one entry more.
-use Rattle.std.proofs.Common.{◌≡◌, ◌≢◌, ℕ, ◌<◌, ◌≤◌, Bool, true, false, cond, List, [], ◌∷◌, ◌++◌, length, get_or, set, length-set, sym, refl, ap, ◌∙◌, subst, arith, eq-eqb, ne_eqb, eqb-true, Option, Some, None}
+use Rattle.std.proofs.Common.{◌≡◌, ◌≢◌, ℕ, ◌<◌, ◌≤◌, Bool, true, false, cond, List, [], ◌∷◌, ◌++◌, length, get_or, set, length-set, sym, refl, ap, ◌∙◌, subst, arith, eq-eqb, ne_eqb, eqb-true, Option, Some, None, ◌+◌, ◌*◌}
 use Rattle.std.specs.Prelude.{slice_get, Vec}
 use Rattle.std.proofs.lemmas.Option.{slice_get-get_or, get_or_from_slice_get}
 use Rattle.circular_buffer.proofs.Places.{slice_get-set_same, slice_get-set_other}
@@ -16,38 +16,21 @@ use Rattle.usb_machine.specs.declared.transfer.Transfer.{Transfer}
 use Rattle.usb_types.specs.declared.urb.UrbId.{UrbId}
 use Rattle.std.specs.declared.alloc.Global.{Global}
 use Rattle.usb_machine.specs.declared.plain.Plain.{Plain}
+use Rattle.usb_machine.specs.declared.pass_row.PassRow.{PassRow}
 use Rattle.usb_machine.specs.declared.queues.Queues.{Queues}
 use Rattle.usb_machine.specs.State.{after, answer_of, first_of, opening}
 use Rattle.usb_machine.specs.History.{Machine, or_zero, home_of, HasHome, is_of, state_of, line_of, line_after, pending_of, pending_after, without_first, without, taken}
 use Rattle.usb_machine.specs.Parts.{part_of, Held, held_of, held_after}
 use Rattle.usb_machine.specs.Legal.{urb_of, end_of, IsLegal, longer}
+use Rattle.usb_machine.specs.Rows.{CanHold, row_after}
 use Rattle.usb_machine.specs.Queues.{homed_at, linked, moved, given}
-use Rattle.usb_machine.specs.Plain.{IsOfUrb, CanCount, HasRoom, IsNext, Stands, queues_of, urbs_of, ends_of}
+use Rattle.usb_machine.specs.Plain.{IsOfUrb, CanCount, HasRoom, IsNext, NotesRow, Stands, queues_of, urbs_of, ends_of}
 use Rattle.usb_machine.proofs.Steps.{state_of-snoc, line_of-snoc, pending_of-snoc, held_own, held_other}
+pub use Rattle.usb_machine.proofs.PassRows.{is_of_own, is_of_other}
+use Rattle.usb_machine.proofs.PassRows.{few_more, ShowRows, rows_stay, rows_note}
 use Rattle.usb_machine.proofs.Totals.{total_at_most}
 use Rattle.usb_machine.proofs.Held.{rejects_are_held}
 use Rattle.usb_machine.proofs.Rooms.{queued_has_home, home_below, owed_is_queued, pending_is_queued, line_has_room, pending_has_room}
-
--- the event is of its own URB and of no other
-pub is_of_own : (e : Event) → IsOfUrb e → is_of (urb_of e) e ≡ true
-is_of_own (Take d) i = absurd i
-is_of_own _ i = eq-eqb _ _ refl
-
-pub is_of_other : (v : ℕ) (e : Event) → v ≢ urb_of e → is_of v e ≡ false
-is_of_other v (Take d) ne = refl
-is_of_other v (Submit u n) ne = ne_eqb u.0 v (λ i. ne (sym i))
-is_of_other v (Link u) ne = ne_eqb u.0 v (λ i. ne (sym i))
-is_of_other v (Mark u w) ne = ne_eqb u.0 v (λ i. ne (sym i))
-is_of_other v (Finish u c) ne = ne_eqb u.0 v (λ i. ne (sym i))
-is_of_other v (Give u) ne = ne_eqb u.0 v (λ i. ne (sym i))
-is_of_other v (Rest u n) ne = ne_eqb u.0 v (λ i. ne (sym i))
-is_of_other v (End u) ne = ne_eqb u.0 v (λ i. ne (sym i))
-is_of_other v (Reject u) ne = ne_eqb u.0 v (λ i. ne (sym i))
-is_of_other v (Withdraw u) ne = ne_eqb u.0 v (λ i. ne (sym i))
-is_of_other v (Quiet u) ne = ne_eqb u.0 v (λ i. ne (sym i))
-is_of_other v (Claim u) ne = ne_eqb u.0 v (λ i. ne (sym i))
-is_of_other v (Flag u f) ne = ne_eqb u.0 v (λ i. ne (sym i))
-is_of_other v (Unflag u f) ne = ne_eqb u.0 v (λ i. ne (sym i))
 
 -- the rows are the states of the URBs after the history
 abbrev pub ShowStates : List UrbState → List Entry → Type 0
@@ -108,42 +91,23 @@ module _ (g : Machine) (h : List Entry) (x : Entry) where
       (λ (same : e ≡ d). subst (λ k. slice_get (set rows k q) e ≡ Some (queues_of g (h ++ x ∷ []) e)) same (slice_get-set_same rows e q within ∙ ap Some (is ∙ ap (queues_of g (h ++ x ∷ [])) (sym same))))
       (λ off. let o = others e off in slice_get-set_other rows d e q off ∙ shows e within ∙ ap Some (sym (queues-snoc e _ _ o.0 o.1)))
 
--- the rejects that a pass holds stay below 256
-abbrev HasRoomFor : Event → Held → Type 0
-HasRoomFor (Reject u) d = d.rejects < 255
-HasRoomFor e d = Unit {0}
-
-few_after : (e : Event) (d : Held) → HasRoomFor e d → d.rejects ≤ 255 → (held_after d e).rejects ≤ 255
-few_after (Reject u) d r l = omega arith
-few_after (Withdraw u) d r l = omega arith
-few_after _ d r l = l
-
-pub few_more : (h : List Entry) (x : Entry) → ((p u : ℕ) → (held_of (part_of h p) u).rejects ≤ 255) → HasRoom h x.pass x.event → (p u : ℕ) → (held_of (part_of (h ++ x ∷ []) p) u).rejects ≤ 255
-few_more h x few room p u = dite (ℕ_discrete p x.pass)
-    (λ is. subst (λ (d : Held). d.rejects ≤ 255) (sym (ap (λ q. held_of (part_of (h ++ x ∷ []) q) u) is ∙ held_own h x u)) (go (is_of u x.event) refl))
-    (λ off. subst (λ (d : Held). d.rejects ≤ 255) (sym (held_other h x u p off)) (few p u))
-  where
-    here : (e : Event) → is_of u e ≡ true → HasRoom h x.pass e → HasRoomFor e (held_of (part_of h x.pass) u)
-    here (Reject v) is r = subst (λ w. (held_of (part_of h x.pass) w).rejects < 255) (eqb-true v.0 u is) r
-    here _ is r = tt
-
-    go : (b : Bool) → is_of u x.event ≡ b → (cond b (held_after (held_of (part_of h x.pass) u) x.event) (held_of (part_of h x.pass) u)).rejects ≤ 255
-    go true is = few_after x.event (held_of (part_of h x.pass) u) (here x.event is room) (few x.pass u)
-    go false is = few x.pass u
-
 -- the object after the event: what is left is that its rows show the longer history
 pub stands_next : (old new : Plain) (g : Machine) (h : List Entry) (x : Entry) → Stands old g h → IsNext g h x.pass x.event x.carried
     → x.answer ≡ answer_of x.event (state_of h (urb_of x.event)) (line_of g h (end_of x.event))
-    → new.homes ≡ old.homes → urbs_of new ≡ urbs_of old → ends_of new ≡ ends_of old → ShowStates new.states.items (h ++ x ∷ []) → ShowQueues g new.ends.items (h ++ x ∷ []) → Stands new g (h ++ x ∷ [])
-stands_next old new g h x s n a homes urbs ends states queues = record {
+    → new.homes ≡ old.homes → urbs_of new ≡ urbs_of old → ends_of new ≡ ends_of old → new.passes ≡ old.passes → ShowStates new.states.items (h ++ x ∷ []) → ShowQueues g new.ends.items (h ++ x ∷ [])
+    → ShowRows g (urbs_of new) new.rows.items (h ++ x ∷ []) → Stands new g (h ++ x ∷ [])
+stands_next old new g h x s n a homes urbs ends passes states queues rows = record {
   legal = longer h x s.legal record { pass = n.pass; may = n.may; answers = a; carries = n.carries };
-  passes = s.passes;
+  most = s.most;
   homes = ap (λ (v : Vec (Option ℕ) Global). v.items) homes ∙ s.homes;
   urbs = urbs ∙ s.urbs;
   ends = ends ∙ s.ends;
   states = states;
   queues = queues;
   few = few_more h x s.few n.room;
+  passes = passes ∙ s.passes;
+  bottom = s.bottom;
+  rows = rows;
 }
 
 -- the row of an URB
@@ -161,36 +125,47 @@ can_count g h p _ legal passes few room = tt
 pub home_row : (plain : Plain) (g : Machine) (h : List Entry) (u : ℕ) → Stands plain g h → (k : HasHome g u) → slice_get plain.homes.items u ≡ Some (Some k.0)
 home_row plain g h u s k = ap (λ xs. slice_get xs u) s.homes ∙ (slice_get-get_or g.layout.homes u None (home_below g u k) ∙ ap Some k.1)
 
+-- the object's states and lists are those after the history with this entry, and the rest is as it was
+pub record Made (old now : Plain) (g : Machine) (h : List Entry) (x : Entry) : Type 0 where
+  pub homes : now.homes ≡ old.homes
+  pub urbs : urbs_of now ≡ urbs_of old
+  pub ends : ends_of now ≡ ends_of old
+  pub states : ShowStates now.states.items (h ++ x ∷ [])
+  pub queues : ShowQueues g now.ends.items (h ++ x ∷ [])
+
 module _ (old new : Plain) (g : Machine) (h : List Entry) (p : ℕ) (a : Answer) (carried : Option Transfer) (s : Stands old g h) where
   abbrev entry : Event → Entry
   entry e = record { pass = p; event = e; answer = a; carried = carried }
 
-  at_event : (e d : Event) → e ≡ d → IsNext g h p e carried → (IsNext g h p d carried → Stands new g (h ++ entry d ∷ [])) → Stands new g (h ++ entry e ∷ [])
-  at_event e d is n next = subst (λ k. IsNext g h p k carried → Stands new g (h ++ entry k ∷ [])) (sym is) next n
+  at_event : (e d : Event) → e ≡ d → IsNext g h p e carried → (IsNext g h p d carried → Made old new g h (entry d)) → Made old new g h (entry e)
+  at_event e d is n next = subst (λ k. IsNext g h p k carried → Made old new g h (entry k)) (sym is) next n
+
+  made : (e : Event) → new.homes ≡ old.homes → urbs_of new ≡ urbs_of old → ends_of new ≡ ends_of old → ShowStates new.states.items (h ++ entry e ∷ []) → ShowQueues g new.ends.items (h ++ entry e ∷ []) → Made old new g h (entry e)
+  made e a b c d f = record { homes = a; urbs = b; ends = c; states = d; queues = f }
 
   -- an event of an URB changes its row
   states_of_change : (e : Event) → HasRoom h p e → IsOfUrb e → urb_of e < urbs_of old
       → (CanCount e (get_or old.states.items (urb_of e) opening) → new.states.items ≡ set old.states.items (urb_of e) (after e a (get_or old.states.items (urb_of e) opening)))
       → ShowStates new.states.items (h ++ entry e ∷ [])
   states_of_change e room of l change =
-      let count = subst (CanCount e) (sym (row_is old g h (urb_of e) s l)) (can_count g h p e s.legal s.passes s.few room) in
+      let count = subst (CanCount e) (sym (row_is old g h (urb_of e) s l)) (can_count g h p e s.legal s.most s.few room) in
       subst (λ rows. ShowStates rows (h ++ entry e ∷ [])) (sym (change count)) (states_change h (entry e) old.states.items s.states of)
 
   -- an event that moves no URB from list to list
-  pub change_stands : (e : Event) → IsNext g h p e carried → a ≡ answer_of e (state_of h (urb_of e)) (line_of g h (end_of e)) → IsOfUrb e → MovesNone e → urb_of e < urbs_of old
+  pub change_made : (e : Event) → IsNext g h p e carried → IsOfUrb e → MovesNone e → urb_of e < urbs_of old
       → (CanCount e (get_or old.states.items (urb_of e) opening) → new.states.items ≡ set old.states.items (urb_of e) (after e a (get_or old.states.items (urb_of e) opening)))
-      → new.homes ≡ old.homes → urbs_of new ≡ urbs_of old → new.ends ≡ old.ends → Stands new g (h ++ entry e ∷ [])
-  change_stands e n answers of none l change homes urbs ends = stands_next old new g h (entry e) s n answers homes urbs (ap (λ (v : Vec Queues Global). length v.items) ends)
+      → new.homes ≡ old.homes → urbs_of new ≡ urbs_of old → new.ends ≡ old.ends → Made old new g h (entry e)
+  change_made e n of none l change homes urbs ends = made e homes urbs (ap (λ (v : Vec Queues Global). length v.items) ends)
       (states_of_change e n.room of l change)
       (subst (λ (v : Vec Queues Global). ShowQueues g v.items (h ++ entry e ∷ [])) (sym ends) (queues_stay g h (entry e) old.ends.items s.queues none))
 
   -- a Take
-  pub take_stands : (ev : Event) (d : ℕ) → ev ≡ Take d → IsNext g h p ev carried → (q now : Queues) → a ≡ first_of (line_of g h d) → d < ends_of old → q ≡ get_or old.ends.items d q
-      → (length q.pending.items < q.pending.capacity → now ≡ moved a q) → new.homes ≡ old.homes → new.states ≡ old.states → new.ends.items ≡ set old.ends.items d now → Stands new g (h ++ entry ev ∷ [])
-  take_stands ev d event m q now answers l is move homes states ends = at_event ev (Take d) event m (λ n.
+  pub take_made : (ev : Event) (d : ℕ) → ev ≡ Take d → IsNext g h p ev carried → (q now : Queues) → d < ends_of old → q ≡ get_or old.ends.items d q
+      → (length q.pending.items < q.pending.capacity → now ≡ moved a q) → new.homes ≡ old.homes → new.states ≡ old.states → new.ends.items ≡ set old.ends.items d now → Made old new g h (entry ev)
+  take_made ev d event m q now l is move homes states ends = at_event ev (Take d) event m (λ n.
       let here : q ≡ queues_of g h d = is ∙ get_or_from_slice_get old.ends.items d (queues_of g h d) q (s.queues d l) in
       let room = subst (λ (k : Queues). length k.pending.items < k.pending.capacity) (sym here) (pending_has_room g h d s.legal n.may.1) in
-      stands_next old new g h (entry (Take d)) s n answers homes (ap (λ (v : Vec UrbState Global). length v.items) states) (ap length ends ∙ length-set old.ends.items d now)
+      made (Take d) homes (ap (λ (v : Vec UrbState Global). length v.items) states) (ap length ends ∙ length-set old.ends.items d now)
       (subst (λ (v : Vec UrbState Global). ShowStates v.items (h ++ entry (Take d) ∷ [])) (sym states) (states_stay h (entry (Take d)) old.states.items s.states (λ _. refl)))
       (subst (λ rows. ShowQueues g rows (h ++ entry (Take d) ∷ [])) (sym ends)
       (queues_change g h (entry (Take d)) old.ends.items s.queues d now (move room ∙ (ap (moved a) here ∙ sym (queues-snoc g h (entry (Take d)) d _ _
@@ -198,36 +173,64 @@ module _ (old new : Plain) (g : Machine) (h : List Entry) (p : ℕ) (a : Answer)
       (λ e off. (ap (λ b. cond b (without_first (line_of g h e)) (line_of g h e)) (ne_eqb d e (λ i. off (sym i))), ap (λ b. cond b (pending_of g h e ++ taken a) (pending_of g h e)) (ne_eqb d e (λ i. off (sym i))))))))
 
   -- a Link
-  pub link_stands : (ev : Event) (u : UrbId) → ev ≡ Link u → IsNext g h p ev carried → a ≡ Nothing
+  pub link_made : (ev : Event) (u : UrbId) → ev ≡ Link u → IsNext g h p ev carried
       → ((e : ℕ) (q : Queues) → slice_get old.homes.items u.0 ≡ Some (Some e) → slice_get old.ends.items e ≡ Some q → length q.line.items < q.line.capacity → new.ends.items ≡ set old.ends.items e (linked u.0 q))
-      → new.homes ≡ old.homes → new.states ≡ old.states → ends_of new ≡ ends_of old → Stands new g (h ++ entry ev ∷ [])
-  link_stands ev u event m answers link homes states ends = at_event ev (Link u) event m (λ n.
+      → new.homes ≡ old.homes → new.states ≡ old.states → ends_of new ≡ ends_of old → Made old new g h (entry ev)
+  link_made ev u event m link homes states ends = at_event ev (Link u) event m (λ n.
       let queued = owed_is_queued g h p u.0 s.legal n.pass n.may in let k = queued_has_home g u.0 h s.legal queued in let d = k.0 in
       let at : home_of g u.0 ≡ d = ap or_zero k.1 in
       let l = old.inside u.0 d (home_row old g h u.0 s k) in
       let rows = link d (queues_of g h d) (home_row old g h u.0 s k) (s.queues d l) (line_has_room g h d s.legal p u.0 n.pass n.may k.1) in
-      stands_next old new g h (entry (Link u)) s n answers homes (ap (λ (v : Vec UrbState Global). length v.items) states) ends
+      made (Link u) homes (ap (λ (v : Vec UrbState Global). length v.items) states) ends
       (subst (λ (v : Vec UrbState Global). ShowStates v.items (h ++ entry (Link u) ∷ [])) (sym states) (states_stay h (entry (Link u)) old.states.items s.states (λ _. refl)))
       (subst (λ rows. ShowQueues g rows (h ++ entry (Link u) ∷ [])) (sym rows)
       (queues_change g h (entry (Link u)) old.ends.items s.queues d (linked u.0 (queues_of g h d)) (sym (queues-snoc g h (entry (Link u)) d _ _ (ap (λ b. cond b (line_of g h d ++ u.0 ∷ []) (line_of g h d)) (eq-eqb (home_of g u.0) d at)) refl))
       (λ e off. (ap (λ b. cond b (line_of g h e ++ u.0 ∷ []) (line_of g h e)) (ne_eqb (home_of g u.0) e (λ i. off (sym i ∙ at))), refl)))))
 
   -- a Give
-  pub give_stands : (middle : Plain) (ev : Event) (u : UrbId) → ev ≡ Give u → IsNext g h p ev carried → a ≡ answer_of (Give u) (state_of h u.0) [] → u.0 < urbs_of old
+  pub give_made : (middle : Plain) (ev : Event) (u : UrbId) → ev ≡ Give u → IsNext g h p ev carried → u.0 < urbs_of old
       → ((e : ℕ) (q : Queues) → slice_get old.homes.items u.0 ≡ Some (Some e) → slice_get old.ends.items e ≡ Some q → middle.ends.items ≡ set old.ends.items e (given u.0 q))
       → middle.homes ≡ old.homes → middle.states ≡ old.states → ends_of middle ≡ ends_of old
       → (CanCount (Give u) (get_or middle.states.items u.0 opening) → new.states.items ≡ set middle.states.items u.0 (after (Give u) a (get_or middle.states.items u.0 opening)))
-      → new.homes ≡ middle.homes → urbs_of new ≡ urbs_of middle → new.ends ≡ middle.ends → Stands new g (h ++ entry ev ∷ [])
-  give_stands middle ev u event m answers l give homes states ends change homes2 urbs2 ends2 = at_event ev (Give u) event m (λ n.
+      → new.homes ≡ middle.homes → urbs_of new ≡ urbs_of middle → new.ends ≡ middle.ends → Made old new g h (entry ev)
+  give_made middle ev u event m l give homes states ends change homes2 urbs2 ends2 = at_event ev (Give u) event m (λ n.
       let queued = pending_is_queued g h u.0 s.legal n.may.1 in let k = queued_has_home g u.0 h s.legal queued in let d = k.0 in
       let at : home_of g u.0 ≡ d = ap or_zero k.1 in
       let rows : new.ends.items ≡ set old.ends.items d (given u.0 (queues_of g h d)) = ap (λ (v : Vec Queues Global). v.items) ends2 ∙ give d (queues_of g h d) (home_row old g h u.0 s k) (s.queues d (old.inside u.0 d (home_row old g h u.0 s k))) in
-      stands_next old new g h (entry (Give u)) s n answers (homes2 ∙ homes) (urbs2 ∙ ap (λ (v : Vec UrbState Global). length v.items) states) (ap (λ (v : Vec Queues Global). length v.items) ends2 ∙ ends)
+      made (Give u) (homes2 ∙ homes) (urbs2 ∙ ap (λ (v : Vec UrbState Global). length v.items) states) (ap (λ (v : Vec Queues Global). length v.items) ends2 ∙ ends)
       (states_of_change (Give u) n.room tt l (λ c. let i : middle.states.items ≡ old.states.items = ap (λ (v : Vec UrbState Global). v.items) states in
       subst (λ items. CanCount (Give u) (get_or items u.0 opening) → new.states.items ≡ set items u.0 (after (Give u) a (get_or items u.0 opening))) i change c))
       (subst (λ rows. ShowQueues g rows (h ++ entry (Give u) ∷ [])) (sym rows)
       (queues_change g h (entry (Give u)) old.ends.items s.queues d (given u.0 (queues_of g h d)) (sym (queues-snoc g h (entry (Give u)) d _ _ refl (ap (λ b. cond b (without u.0 (pending_of g h d)) (pending_of g h d)) (eq-eqb (home_of g u.0) d at))))
       (λ e off. (refl, ap (λ b. cond b (without u.0 (pending_of g h e)) (pending_of g h e)) (ne_eqb (home_of g u.0) e (λ i. off (sym i ∙ at))))))))
+
+-- an event of an URB is noted in the row of its pass
+pub noted_stands : (old middle new : Plain) (g : Machine) (h : List Entry) (x : Entry) → Stands old g h → IsNext g h x.pass x.event x.carried
+    → x.answer ≡ answer_of x.event (state_of h (urb_of x.event)) (line_of g h (end_of x.event)) → Made old middle g h x → (middle.passes ≡ old.passes) × (middle.rows ≡ old.rows)
+    → IsOfUrb x.event → urb_of x.event < urbs_of old
+    → (x.pass < middle.passes → urb_of x.event < urbs_of middle → NotesRow middle new (x.pass * urbs_of middle + urb_of x.event) x.event x.answer)
+    → new.passes ≡ middle.passes → (new.homes ≡ middle.homes) × (new.states ≡ middle.states) × (new.ends ≡ middle.ends) → Stands new g (h ++ x ∷ [])
+noted_stands old middle new g h x s n answers made before of inside note passes rest =
+    let urbs : urbs_of new ≡ urbs_of middle = ap (λ (v : Vec UrbState Global). length v.items) rest.1 in
+    let count : urbs_of middle ≡ urbs_of old = made.urbs in
+    let pass = n.pass in let known = s.passes in let kept = before.0 in
+    let noted = note (omega arith) (omega arith) in
+    let P : ℕ → List PassRow → Type 0 = λ k rows. (row : PassRow) → slice_get rows (x.pass * k + urb_of x.event) ≡ Some row → CanHold x.event row.held → new.rows.items ≡ set rows (x.pass * k + urb_of x.event) (row_after x.event x.answer row) in
+    let at : P (urbs_of old) old.rows.items = subst (P (urbs_of old)) (ap (λ (v : Vec PassRow Global). v.items) before.1) (subst (λ k. P k middle.rows.items) count noted) in
+    stands_next old new g h x s n answers (rest.0 ∙ made.homes) (urbs ∙ count) (ap (λ (v : Vec Queues Global). length v.items) rest.2 ∙ made.ends) (passes ∙ before.0)
+    (subst (λ (v : Vec UrbState Global). ShowStates v.items (h ++ x ∷ [])) (sym rest.1) made.states)
+    (subst (λ (v : Vec Queues Global). ShowQueues g v.items (h ++ x ∷ [])) (sym rest.2) made.queues)
+    (subst (λ k. ShowRows g k new.rows.items (h ++ x ∷ [])) (sym (urbs ∙ count)) (rows_note h x g (urbs_of old) old.rows.items new.rows.items s.rows n.pass inside of n.room at))
+
+-- a Take is of no URB, and no row is noted
+pub taken_stands : (old new : Plain) (g : Machine) (h : List Entry) (p d : ℕ) (ev : Event) (a : Answer) (carried : Option Transfer) → Stands old g h → ev ≡ Take d → IsNext g h p ev carried
+    → a ≡ first_of (line_of g h d) → Made old new g h record { pass = p; event = ev; answer = a; carried = carried } → new.passes ≡ old.passes → new.rows ≡ old.rows
+    → Stands new g (h ++ record { pass = p; event = ev; answer = a; carried = carried } ∷ [])
+taken_stands old new g h p d ev a carried s is n answers made passes rows =
+    let x : Entry = record { pass = p; event = ev; answer = a; carried = carried } in
+    stands_next old new g h x s n (answers ∙ ap (λ e. answer_of e (state_of h (urb_of e)) (line_of g h (end_of e))) (sym is)) made.homes made.urbs made.ends passes made.states made.queues
+    (subst (λ k. ShowRows g k new.rows.items (h ++ x ∷ [])) (sym made.urbs)
+    (subst (λ (v : Vec PassRow Global). ShowRows g (urbs_of old) v.items (h ++ x ∷ [])) (sym rows) (rows_stay h x g (urbs_of old) old.rows.items s.rows (λ v. ap (is_of v) is))))
 
 -- what an event of an URB answers is for no line to say
 pub answer_of_line : (e : Event) (s : UrbState) (us vs : List ℕ) → IsOfUrb e → answer_of e s us ≡ answer_of e s vs

@@ -5,5 +5,6 @@ pub mod Parts
 pub mod Legal
 pub mod Laws
 pub mod Queues
+pub mod Rows
 pub mod Plain
 pub mod Calls

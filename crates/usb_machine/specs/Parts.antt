@@ -6,6 +6,7 @@ use Rattle.usb_machine.specs.declared.event.Event.TheVariants.{Submit, Link, Rej
 use Rattle.usb_machine.specs.declared.event.Answer.{Answer}
 use Rattle.usb_machine.specs.declared.entry.Entry.{Entry}
 use Rattle.usb_machine.specs.declared.state.Flags.{Flags}
+pub use Rattle.usb_machine.specs.declared.pass_row.Held.{Held}
 use Rattle.usb_machine.specs.State.{no_flags, with_flag, accepted}
 use Rattle.usb_machine.specs.History.{is_of}
 
@@ -22,12 +23,6 @@ owes_after u b _ a = b
 -- whether a pass with these entries owes the Link of u
 abbrev pub owes : List Entry → ℕ → Bool
 owes m u = fold (λ b x. owes_after u b x.event x.answer) false m
-
--- what a pass holds against an URB: its rejects, its flags, and whether it keeps the URB quiet
-pub record Held : Type 0 where
-  pub rejects : ℕ
-  pub flags : Flags
-  pub kept : Bool
 
 abbrev pub nothing_held : Held
 nothing_held = record { rejects = 0; flags = no_flags; kept = false }

@@ -1,11 +1,21 @@
 //! What an event answers by the state of its URB, and what it changes there.
 ghost use Rattle.std.specs.Prelude.{◌≡◌, []};
-ghost use Rattle.usb_machine.specs.State.{opening, after, answer_of, refusal, unlinking, status_of, with_flag as flags_with};
+ghost use Rattle.usb_machine.specs.State.{opening, after, answer_of, refusal, unlinking, status_of, no_flags as none, with_flag as flags_with};
 ghost use Rattle.usb_machine.specs.Plain.{IsOfUrb, CanCount};
 
 use crate::event::{Answer, Event};
 use crate::state::{Flags, Mark, UrbState};
 use usb_types::{Code, Errno, Flag};
+
+pub(crate) fn no_flags() -> Flags
+    ensures { result ≡ none }
+{
+    Flags {
+        gone: false,
+        off: false,
+        down: false,
+    }
+}
 
 /// The state of each URB at first.
 pub(crate) fn at_first() -> UrbState
@@ -15,11 +25,7 @@ pub(crate) fn at_first() -> UrbState
         queued: false,
         mark: Mark::Clear,
         rejects: 0,
-        flags: Flags {
-            gone: false,
-            off: false,
-            down: false,
-        },
+        flags: no_flags(),
         handlers: 0,
         rest: None,
     }
@@ -79,7 +85,7 @@ pub(crate) fn answered(event: Event, state: &UrbState) -> Answer
     }
 }
 
-fn with_flag(flag: Flag, stands: bool, flags: Flags) -> Flags
+pub(crate) fn with_flag(flag: Flag, stands: bool, flags: Flags) -> Flags
     ensures { result ≡ flags_with flag stands flags }
 {
     match flag {

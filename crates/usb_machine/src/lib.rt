@@ -7,6 +7,7 @@ mod event;
 mod fault;
 pub mod laws;
 mod layout;
+mod pass_row;
 mod plain;
 mod queues;
 mod state;
