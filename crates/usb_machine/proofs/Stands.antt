@@ -1,5 +1,5 @@
 -- What a step needs to know, so that the object stands for the history with one entry more.
-use Rattle.std.proofs.Common.{◌≡◌, ◌≢◌, ℕ, ◌<◌, ◌≤◌, Bool, true, false, cond, List, [], ◌∷◌, ◌++◌, length, get_or, set, length-set, sym, refl, ap, ◌∙◌, subst, arith, eq-eqb, ne_eqb, eqb-true, Option, Some, None, ◌+◌, ◌*◌}
+use Rattle.std.proofs.Common.{◌≡◌, ◌≢◌, ℕ, ◌<◌, ◌≤◌, Bool, true, false, cond, List, [], ◌∷◌, ◌++◌, length, get_or, set, length-set, sym, refl, ap, ◌∙◌, subst, arith, eq-eqb, ne_eqb, Option, Some, None, ◌+◌, ◌*◌}
 use Rattle.std.specs.Prelude.{slice_get, Vec}
 use Rattle.std.proofs.lemmas.Option.{slice_get-get_or, get_or_from_slice_get}
 use Rattle.circular_buffer.proofs.Places.{slice_get-set_same, slice_get-set_other}
@@ -7,9 +7,8 @@ use Rattle.circular_buffer.specs.Buffer.{buffer}
 use mathlib.Core.Logic.{dite}
 use native.Mathlib.Decide.{ℕ_discrete}
 use Rattle.usb_machine.specs.declared.event.Event.{Event}
-use Rattle.usb_machine.specs.declared.event.Event.TheVariants.{Submit, Link, Take, Mark, Finish, Give, Rest, End, Reject, Withdraw, Quiet, Claim, Flag, Unflag}
+use Rattle.usb_machine.specs.declared.event.Event.TheVariants.{Link, Take, Give, Reject}
 use Rattle.usb_machine.specs.declared.event.Answer.{Answer}
-use Rattle.usb_machine.specs.declared.event.Answer.TheVariants.{Nothing}
 use Rattle.usb_machine.specs.declared.entry.Entry.{Entry}
 use Rattle.usb_machine.specs.declared.state.UrbState.{UrbState}
 use Rattle.usb_machine.specs.declared.transfer.Transfer.{Transfer}
@@ -20,12 +19,12 @@ use Rattle.usb_machine.specs.declared.pass_row.PassRow.{PassRow}
 use Rattle.usb_machine.specs.declared.queues.Queues.{Queues}
 use Rattle.usb_machine.specs.State.{after, answer_of, first_of, opening}
 use Rattle.usb_machine.specs.History.{Machine, or_zero, home_of, HasHome, is_of, state_of, line_of, line_after, pending_of, pending_after, without_first, without, taken}
-use Rattle.usb_machine.specs.Parts.{part_of, Held, held_of, held_after}
+use Rattle.usb_machine.specs.Parts.{part_of, held_of}
 use Rattle.usb_machine.specs.Legal.{urb_of, end_of, IsLegal, longer}
 use Rattle.usb_machine.specs.Rows.{CanHold, row_after}
 use Rattle.usb_machine.specs.Queues.{homed_at, linked, moved, given}
 use Rattle.usb_machine.specs.Plain.{IsOfUrb, CanCount, HasRoom, IsNext, NotesRow, Stands, queues_of, urbs_of, ends_of}
-use Rattle.usb_machine.proofs.Steps.{state_of-snoc, line_of-snoc, pending_of-snoc, held_own, held_other}
+use Rattle.usb_machine.proofs.Steps.{state_of-snoc, line_of-snoc, pending_of-snoc}
 pub use Rattle.usb_machine.proofs.PassRows.{is_of_own, is_of_other}
 use Rattle.usb_machine.proofs.PassRows.{few_more, ShowRows, rows_stay, rows_note}
 use Rattle.usb_machine.proofs.Totals.{total_at_most}

@@ -1,5 +1,5 @@
 -- What a pass owes and holds of an URB, and what an event of the pass changes there.
-use Rattle.std.specs.Prelude.{ℕ, ◌<◌, Bool, true, false, ◌||◌, List}
+use Rattle.std.specs.Prelude.{ℕ, ◌<◌, Bool, false, ◌||◌, List}
 use Rattle.usb_machine.specs.declared.event.Event.{Event}
 use Rattle.usb_machine.specs.declared.event.Event.TheVariants.{Submit, Link, Reject}
 use Rattle.usb_machine.specs.declared.event.Answer.{Answer}

@@ -1,9 +1,10 @@
 -- The state of an URB: what an event answers there, and what an event with its answer changes.
 -- After `struct urb` and `urb.c`, `hcd.c` of the kernel: `use_count`, `reject`, `unlinked`.
-use Rattle.std.specs.Prelude.{ℕ, ◌+◌, ◌-◌, Bool, true, false, ◌==◌, if◌then◌else◌, List, [], ◌∷◌, Some, None}
+use Rattle.std.specs.Prelude.{ℕ, ◌+◌, ◌-◌, Bool, true, false, ◌==◌, if◌then◌else◌, List, [], ◌∷◌, Option, Some, None}
 use Rattle.usb_types.specs.declared.errno.Errno.TheVariants.{EBUSY, ENODEV, EPERM, ENOENT, ESHUTDOWN, EIDRM, EINPROGRESS}
 use Rattle.usb_types.specs.declared.errno.Code.{Code}
 use Rattle.usb_types.specs.declared.errno.Code.TheVariants.{Zero, Fault}
+use Rattle.usb_types.specs.declared.urb.Why.{Why}
 use Rattle.usb_types.specs.declared.urb.Flag.{Flag as FlagName}
 use Rattle.usb_types.specs.declared.urb.Flag.TheVariants.{Gone, Off, Down}
 use Rattle.usb_types.specs.Codes.{errno_of}
@@ -35,6 +36,12 @@ abbrev pub is_clear : MarkState → Bool
 is_clear Clear = true
 is_clear (Unlinked w) = false
 is_clear (Finished c) = false
+
+-- why an URB was unlinked, where its mark says so
+abbrev pub why_of : MarkState → Option Why
+why_of Clear = None
+why_of (Unlinked w) = Some w
+why_of (Finished c) = None
 
 -- the status that a mark stands for
 abbrev pub status_of : MarkState → Code

@@ -1,6 +1,6 @@
 //! What an event answers by the state of its URB, and what it changes there.
-ghost use Rattle.std.specs.Prelude.{◌≡◌, []};
-ghost use Rattle.usb_machine.specs.State.{opening, after, answer_of, refusal, unlinking, status_of, no_flags as none, with_flag as flags_with};
+ghost use Rattle.std.specs.Prelude.{◌≡◌, ◌↔◌, IsTrue, false, [], not};
+ghost use Rattle.usb_machine.specs.State.{opening, is_clear, after, answer_of, refusal, unlinking, status_of, has_flag as flag_of, no_flags as none, with_flag as flags_with};
 ghost use Rattle.usb_machine.specs.Plain.{IsOfUrb, CanCount};
 
 use crate::event::{Answer, Event};
@@ -101,6 +101,28 @@ pub(crate) fn with_flag(flag: Flag, stands: bool, flags: Flags) -> Flags
             down: stands,
             ..flags
         },
+    }
+}
+
+pub(crate) fn is_quiet(state: &UrbState) -> bool
+    ensures { IsTrue result ↔ ((state.now.queued ≡ false) × (state.now.handlers ≡ 0)) }
+{
+    !state.queued && state.handlers == 0
+}
+
+pub(crate) fn is_marked(mark: Mark) -> bool
+    ensures { result ≡ not (is_clear mark) }
+{
+    !matches!(mark, Mark::Clear)
+}
+
+pub(crate) fn has_flag(flag: Flag, flags: Flags) -> bool
+    ensures { result ≡ flag_of flag flags }
+{
+    match flag {
+        Flag::Gone => flags.gone,
+        Flag::Off => flags.off,
+        Flag::Down => flags.down,
     }
 }
 

@@ -1,14 +1,14 @@
-ghost use Rattle.std.specs.Prelude.{◌≡◌, ℕ, ◌<◌, ◌≤◌, ◌+◌, ◌^◌, ◌++◌, ◌∷◌, [], List, Option, Some, None, length, All, IfOk, IfSome, replicate, ◌*◌, slice_index_or, slice_get, slice_set};
+ghost use Rattle.std.specs.Prelude.{◌≡◌, ℕ, ◌<◌, ◌≤◌, ◌+◌, ◌^◌, ◌++◌, ◌∷◌, [], List, Option, Some, None, length, All, IfOk, IfSome, IsTrue, false, not, ◌↔◌, replicate, ◌*◌, slice_index_or, slice_get, slice_set};
 
-use crate::change::{answered, at_first, changed};
-use crate::entry::SERVER;
+use crate::change::{answered, at_first, changed, has_flag, is_marked, is_quiet};
+use crate::entry::{HUB, SERVER};
 use crate::event::{Answer, Event};
 use crate::layout::Layout;
 use crate::pass_row::{PassRow, nothing};
 use crate::queues::{Queues, empty_queues};
-use crate::state::UrbState;
+use crate::state::{Mark, UrbState};
 use std::alloc::{AllocError, Global};
-use usb_types::Memory;
+use usb_types::{Flag, Memory, UrbId, Why};
 
 /// The machine as an object, for one caller at a time.
 #[derive(Drop)]
@@ -27,9 +27,10 @@ impl Plain {
     ghost use Rattle.usb_machine.specs.declared.entry.Entry.{Entry};
     ghost use Rattle.usb_machine.specs.declared.transfer.Transfer.{Transfer};
     ghost use Rattle.usb_machine.specs.declared.queues.Queues.{Queues};
-    ghost use Rattle.usb_machine.specs.State.{answer_of, after, opening};
-    ghost use Rattle.usb_machine.specs.History.{Machine, state_of, line_of};
-    ghost use Rattle.usb_machine.specs.Legal.{urb_of, end_of};
+    ghost use Rattle.usb_machine.specs.declared.pass_row.PassRow.{PassRow};
+    ghost use Rattle.usb_machine.specs.State.{answer_of, after, opening, why_of, is_clear, has_flag as flag_of};
+    ghost use Rattle.usb_machine.specs.History.{Machine, HasHome, home_of, state_of, line_of, pending_of};
+    ghost use Rattle.usb_machine.specs.Legal.{urb_of, end_of, May, IsFirst, times};
     ghost use Rattle.usb_machine.specs.Queues.{HomeIsBelow, homed_at, no_urbs, linked, given};
     ghost use Rattle.usb_machine.specs.Rows.{no_row};
     ghost use Rattle.usb_machine.specs.Plain.{IsLayout, IsOfUrb, CanCount, NotesRow, IsInside, IsNext, Stands, urbs_of, ends_of};
@@ -42,13 +43,23 @@ impl Plain {
         ensures opening { IfOk result (λ plain. Stands plain record { layout = layout.now; passes = passes + 2; bottom = SERVER } []) }
         ensures counts { IfOk result (λ plain. (urbs_of plain ≡ length layout.now.homes) × (ends_of plain ≡ length layout.now.shapes)) }
     {
-        match Plain::opened(alloc, layout.homes.items(), layout.shapes.items().len(), passes + 2) {
+        match Plain::opened(
+            alloc,
+            layout.homes.items(),
+            layout.shapes.items().len(),
+            passes + 2,
+        ) {
             Ok(plain) => Ok(plain),
             Err(_) => Err(Memory),
         }
     }
 
-    fn opened(alloc: Global, homes: &[Option<u32>], ends: usize, passes: u32) -> Result<Plain, AllocError>
+    fn opened(
+        alloc: Global,
+        homes: &[Option<u32>],
+        ends: usize,
+        passes: u32,
+    ) -> Result<Plain, AllocError>
         requires homes { All (HomeIsBelow ends) homes.now }
         requires count { length homes.now < 2 ^ 31 }
         requires passes { passes ≤ 66 }
@@ -67,6 +78,47 @@ impl Plain {
             passes,
             rows: vec![in alloc; nothing(); passes as usize * homes.len()]?,
         })
+    }
+
+    /// Whether an event of this pass may come. A Submit may come where the URB has a home.
+    pub fn may(&self, pass: u32, event: Event) -> bool
+        requires { IsInside self.now event }
+        ensures { (g : Machine) (h : List Entry) → Stands self.now g h → pass < g.passes → (IsTrue result ↔ May g h pass event) }
+    {
+        match event {
+            Event::Take { ep } => pass == SERVER && self.ends[ep as usize].has_line(),
+            Event::Mark { .. } | Event::Reject { .. } => true,
+            Event::Submit { urb, .. } => self.has_home(urb),
+            Event::Link { urb } => self.row(pass, urb.0).owes,
+            Event::Finish { urb, .. } => pass == SERVER && self.is_first(urb),
+            Event::Give { urb } => pass == SERVER && self.is_given_next(urb),
+            Event::Rest { urb, .. } => pass == SERVER && self.handlers(urb) > 0,
+            Event::End { urb } => pass == SERVER && self.handlers(urb) > 0,
+            Event::Withdraw { urb } => self.row(pass, urb.0).held.rejects > 0,
+            Event::Quiet { urb } => self.is_quiet(urb),
+            Event::Claim { urb } => self.row(pass, urb.0).held.kept,
+            Event::Flag { urb, flag } => pass == HUB && !self.has_flag(urb, flag),
+            Event::Unflag { urb, flag } => pass == HUB && self.has_flag(urb, flag),
+        }
+    }
+
+    /// Why the URB was unlinked, while the mark of that stands.
+    pub fn mark(&self, urb: UrbId) -> Option<Why>
+        requires { urb.0 < urbs_of self.now }
+        ensures { (g : Machine) (h : List Entry) → Stands self.now g h → result ≡ why_of (state_of h urb.0).mark }
+    {
+        match self.states[urb.0 as usize].mark {
+            Mark::Unlinked(why) => Some(why),
+            Mark::Clear | Mark::Finished(_) => None,
+        }
+    }
+
+    /// How many completion handlers of the URB run.
+    pub fn handlers(&self, urb: UrbId) -> u64
+        requires { urb.0 < urbs_of self.now }
+        ensures { (g : Machine) (h : List Entry) → Stands self.now g h → result ≡ (state_of h urb.0).handlers }
+    {
+        self.states[urb.0 as usize].handlers
     }
 
     /// Makes an event.
@@ -117,6 +169,73 @@ impl Plain {
         } else {
             None
         }
+    }
+
+    /// What this pass owes and holds of the URB.
+    fn row(&self, pass: u32, urb: u32) -> PassRow
+        ensures { (row : PassRow) → pass < self.now.passes → urb < urbs_of self.now → slice_get self.now.rows.items (pass * urbs_of self.now + urb) ≡ Some row → result ≡ row }
+    {
+        match self.place(pass, urb) {
+            Some(place) => self.rows[place],
+            None => nothing(),
+        }
+    }
+
+    fn has_home(&self, urb: UrbId) -> bool
+        requires { urb.0 < urbs_of self.now }
+        ensures { (g : Machine) (h : List Entry) → Stands self.now g h → (IsTrue result ↔ HasHome g urb.0) }
+    {
+        self.homes[urb.0 as usize].is_some()
+    }
+
+    /// Whether the URB is the first pending one of its home.
+    fn is_first(&self, urb: UrbId) -> bool
+        requires { urb.0 < urbs_of self.now }
+        ensures { (g : Machine) (h : List Entry) → Stands self.now g h → (IsTrue result ↔ IsFirst urb.0 (pending_of g h (home_of g urb.0))) }
+    {
+        match self.homes[urb.0 as usize] {
+            Some(ep) => self.ends[ep as usize].is_first(urb.0),
+            None => false,
+        }
+    }
+
+    fn is_pending(&self, urb: UrbId) -> bool
+        requires { urb.0 < urbs_of self.now }
+        ensures { (g : Machine) (h : List Entry) → Stands self.now g h → (IsTrue result ↔ (0 < times urb.0 (pending_of g h (home_of g urb.0)))) }
+    {
+        match self.homes[urb.0 as usize] {
+            Some(ep) => self.ends[ep as usize].is_pending(urb.0),
+            None => false,
+        }
+    }
+
+    fn is_marked(&self, urb: UrbId) -> bool
+        requires { urb.0 < urbs_of self.now }
+        ensures { (g : Machine) (h : List Entry) → Stands self.now g h → result ≡ not (is_clear (state_of h urb.0).mark) }
+    {
+        is_marked(self.states[urb.0 as usize].mark)
+    }
+
+    /// Whether the URB is pending and marked.
+    fn is_given_next(&self, urb: UrbId) -> bool
+        requires { urb.0 < urbs_of self.now }
+        ensures { (g : Machine) (h : List Entry) → Stands self.now g h → (IsTrue result ↔ ((0 < times urb.0 (pending_of g h (home_of g urb.0))) × (is_clear (state_of h urb.0).mark ≡ false))) }
+    {
+        self.is_pending(urb) && self.is_marked(urb)
+    }
+
+    fn is_quiet(&self, urb: UrbId) -> bool
+        requires { urb.0 < urbs_of self.now }
+        ensures { (g : Machine) (h : List Entry) → Stands self.now g h → (IsTrue result ↔ (((state_of h urb.0).queued ≡ false) × ((state_of h urb.0).handlers ≡ 0))) }
+    {
+        is_quiet(&self.states[urb.0 as usize])
+    }
+
+    fn has_flag(&self, urb: UrbId, flag: Flag) -> bool
+        requires { urb.0 < urbs_of self.now }
+        ensures { (g : Machine) (h : List Entry) → Stands self.now g h → result ≡ flag_of flag (state_of h urb.0).flags }
+    {
+        has_flag(flag, self.states[urb.0 as usize].flags)
     }
 
     /// Notes what this pass owes and holds after its event of the URB.

@@ -1,5 +1,6 @@
-ghost use Rattle.std.specs.Prelude.{◌≡◌, ℕ, ◌<◌, ◌^◌, length, map, All, IfOk, slice_get, Some};
+ghost use Rattle.std.specs.Prelude.{◌≡◌, ℕ, ◌<◌, ◌^◌, length, map, All, IfOk, IsTrue, ◌↔◌, Contains, slice_get, Some};
 ghost use Rattle.usb_machine.specs.State.{first_of};
+ghost use Rattle.usb_machine.specs.Legal.{IsFirst};
 ghost use Rattle.usb_machine.specs.Queues.{HomeIsBelow, homed_at, no_urbs, linked, moved, given};
 
 use crate::event::Answer;
@@ -22,6 +23,24 @@ impl Queues {
             line: HeapCircularBuffer::with_capacity(alloc, room)?,
             pending: HeapCircularBuffer::with_capacity(alloc, room)?,
         })
+    }
+
+    pub(crate) fn has_line(&self) -> bool
+        ensures { IsTrue result ↔ (0 < length self.now.line.items) }
+    {
+        !self.line.is_empty()
+    }
+
+    pub(crate) fn is_first(&self, urb: u32) -> bool
+        ensures { IsTrue result ↔ IsFirst urb self.now.pending.items }
+    {
+        self.pending.front() == Some(&urb)
+    }
+
+    pub(crate) fn is_pending(&self, urb: u32) -> bool
+        ensures { IsTrue result ↔ Contains self.now.pending.items urb }
+    {
+        self.pending.iter().any(|v| *v == urb)
     }
 
     /// Puts the URB last in the line.

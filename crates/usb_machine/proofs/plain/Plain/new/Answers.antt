@@ -1,4 +1,4 @@
-use Rattle.std.proofs.Common.{◌≡◌, ◌<◌, length, replicate, ap, ◌∙◌, arith, Some, refl, ◌+◌, ◌*◌, sym}
+use Rattle.std.proofs.Common.{◌≡◌, ◌<◌, length, replicate, ap, ◌∙◌, arith, Some, refl, ◌+◌, ◌*◌}
 use Rattle.std.specs.Prelude.{slice_get}
 use Rattle.std.proofs.lemmas.Option.{slice_get-get_or}
 use Rattle.std.proofs.lemmas.List.{get_or-replicate, length-replicate}

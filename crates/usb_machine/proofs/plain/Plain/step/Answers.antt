@@ -1,6 +1,6 @@
 use Rattle.std.proofs.Common.{rules, ◌≡◌, ◌<◌, ℕ, [], sym, refl, ap, ◌∙◌, subst, get_or, set, ◌+◌, ◌*◌}
 use Rattle.usb_machine.specs.declared.event.Event.{Event}
-use Rattle.usb_machine.specs.declared.event.Event.TheVariants.{Take, Link, Give}
+use Rattle.usb_machine.specs.declared.event.Event.TheVariants.{Take, Give}
 use Rattle.usb_machine.specs.declared.event.Answer.TheVariants.{Nothing}
 use Rattle.std.specs.Prelude.{Vec}
 use Rattle.std.specs.declared.alloc.Global.{Global}
