@@ -25,6 +25,6 @@ mod turn;
 
 pub use input::INPUT_LIMIT;
 pub use laws::{a_run_in_line_order_is_a_run, a_scene_has_one_run_in_line_order};
+pub use scene_laws::{reports_first_bad_line, text_reads_back};
 pub use status::{Cause, Status};
 pub use top::usbrun;
-pub use scene_laws::{reports_first_bad_line, text_reads_back};
