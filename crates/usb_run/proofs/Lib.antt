@@ -24,3 +24,5 @@ pub mod Making
 pub mod Preparing
 pub mod Sound
 pub mod WellRead
+pub mod FirstBad
+pub mod Whole

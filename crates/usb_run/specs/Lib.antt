@@ -15,3 +15,4 @@ pub mod Short
 pub mod Scripted
 pub mod Shows
 pub mod Top
+pub mod SceneLaws

@@ -15,6 +15,7 @@ mod read;
 mod report;
 mod rules;
 mod scene;
+mod scene_laws;
 mod statement;
 mod status;
 mod submit;
@@ -24,5 +25,6 @@ mod turn;
 
 pub use input::INPUT_LIMIT;
 pub use laws::{a_run_in_line_order_is_a_run, a_scene_has_one_run_in_line_order};
+pub use scene_laws::{reports_first_bad_line, text_reads_back};
 pub use status::{Cause, Status};
 pub use top::usbrun;

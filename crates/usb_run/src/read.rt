@@ -138,3 +138,6 @@ pub fn read_scene(alloc: Global, bytes: &[u8]) -> Result<Scene, SceneFault>
         }),
     }
 }
+
+#[cfg(test)]
+mod tests;

@@ -1,0 +1,16 @@
+ghost use Rattle.std.specs.Prelude.{◌≡◌, ◌⊎◌, ℕ, List, Err, Ok};
+ghost use Rattle.usb_run.specs.declared.scene.Scene.{Scene};
+ghost use Rattle.usb_run.specs.declared.rules.Cause.{Cause};
+ghost use Rattle.usb_run.specs.Rules.{empty_scene};
+ghost use Rattle.usb_run.specs.Read.{scene_of};
+ghost use Rattle.usb_run.specs.SceneLaws.{IsFirstBad, LacksHeader, Said, SaidInTurn, text_of};
+
+/// The line that is reported is the first bad one, with the first cause against it.
+pub fn reports_first_bad_line()
+    ensures { (bytes : List ℕ) (n : ℕ) (c : Cause) → scene_of bytes ≡ Err (n, c) → IsFirstBad bytes n c ⊎ (LacksHeader bytes n × (c ≡ Cause.Header)) }
+{}
+
+/// A text of lines reads as the scene that the lines say.
+pub fn text_reads_back()
+    ensures { (lines : List Said) (scene : Scene) → SaidInTurn empty_scene 1 lines scene → scene_of (text_of lines) ≡ Ok scene }
+{}
