@@ -1,5 +1,5 @@
 -- Every scene that is read is well formed.
-use Rattle.std.proofs.Common.{◌≡◌, ℕ, ◌+◌, ◌<◌, ◌≤◌, ◌^◌, Bool, true, false, cond, List, [], ◌∷◌, length, Option, Some, None, Ok, Err, Result, refl, sym, ap, ◌∙◌, arith, subst, lit<, lit≤}
+use Rattle.std.proofs.Common.{◌≡◌, ℕ, ◌+◌, ◌<◌, ◌≤◌, ◌^◌, Bool, true, false, cond, List, [], ◌∷◌, length, Option, Some, None, Ok, Err, Result, refl, sym, ap, ◌∙◌, arith, subst, lit≤}
 use Rattle.std.specs.List.{All}
 use Rattle.std.proofs.lemmas.List.Elements.{All-nil}
 use Rattle.usb_text.specs.Lines.{raw_lines, without_return}
@@ -13,7 +13,7 @@ use Rattle.usb_run.specs.declared.rules.Cause.TheVariants as cause
 use Rattle.usb_run.specs.WellFormed.{IsDevice, IsUrb, IsCall, IsWellFormed}
 use Rattle.usb_run.specs.Statements.{keyword_of, keyword_said, statement_of}
 use Rattle.usb_run.specs.Rules.{may_stand, statement_cause, scene_with, empty_scene}
-use Rattle.usb_run.specs.Read.{Reading, allowed, formed, in_place, is_header, grown, words_read, line_words, plain_read, ended, then_on, lines_read, scene_of}
+use Rattle.usb_run.specs.Read.{Reading, allowed, formed, in_place, is_header, grown, line_words, plain_read, ended, then_on, lines_read, scene_of}
 use Rattle.usb_run.proofs.Formed.{IsSound, statement_of-IsSaid, place_said}
 use Rattle.usb_run.proofs.Sound.{IsAllowed, allowed_said, well_formed_with}
 

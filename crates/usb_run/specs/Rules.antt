@@ -1,5 +1,5 @@
 -- Where a line may stand, what it must name, what it must not repeat, its limits, and what it adds to the scene.
-use Rattle.std.specs.Prelude.{ℕ, ◌+◌, ◌-◌, ◌≡◌, ◌≤◌, Bool, true, false, ◌&&◌, not, ◌==◌, nat_le, nat_lt, if◌then◌else◌, List, [], ◌∷◌, ◌++◌, length, Option, Some, None, is_some, position, unwrap_or, slice_get, codes}
+use Rattle.std.specs.Prelude.{ℕ, ◌+◌, ◌-◌, ◌≡◌, ◌≤◌, Bool, true, ◌&&◌, not, ◌==◌, nat_le, nat_lt, if◌then◌else◌, List, [], ◌∷◌, ◌++◌, length, Option, Some, None, is_some, position, unwrap_or, slice_get, codes}
 use Rattle.std.specs.List.{list_any, sum_by}
 use Rattle.std.specs.Str.{bytes_eq}
 use Rattle.usb_machine.specs.declared.layout.EndKind.TheVariants.{Bulk}
@@ -126,8 +126,18 @@ bulk_end scene address size = record { device = length scene.devices - 1; addres
 abbrev pub with_end : Shape → SceneDevice → SceneDevice
 with_end shape device = record device { ends = device.ends ++ shape ∷ [] }
 
+-- one list of two of one address
+abbrev pub together : Answers → Answers → Answers
+together first next = record first { items = first.items ++ next.items }
+
+-- answers behind others, in one list with the last where they are of one address
+abbrev pub joined : Answers → List Answers → List Answers
+joined said [] = said ∷ []
+joined said (last ∷ []) = if last.address == said.address then together last said ∷ [] else last ∷ said ∷ []
+joined said (first ∷ next ∷ others) = first ∷ joined said (next ∷ others)
+
 abbrev pub with_answers : Answers → SceneDevice → SceneDevice
-with_answers answers device = record device { answers = device.answers ++ answers ∷ [] }
+with_answers said device = record device { answers = joined said device.answers }
 
 abbrev pub with_call : Call → SceneThread → SceneThread
 with_call call thread = record thread { calls = thread.calls ++ call ∷ [] }

@@ -1,5 +1,5 @@
-use Rattle.std.proofs.Common.{◌≡◌, Ok, length, arith, rules, ap, ◌∙◌}
-use Rattle.usb_run.specs.Read.{scene_of, ended}
+use Rattle.std.proofs.Common.{◌≡◌, Ok, length, rules}
+use Rattle.usb_run.specs.Read.{scene_of}
 use Rattle.usb_run.proofs.Reading.{read_end}
 use Rattle.usb_run.proofs.WellRead.{scene_of-IsWellFormed}
 use Rattle.usb_run.proofs.read.read_scene.Goals as goal
