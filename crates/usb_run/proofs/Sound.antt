@@ -6,7 +6,7 @@ use Rattle.std.specs.Str.{bytes_eq}
 use Rattle.std.proofs.lemmas.Bool.{and_parts, ltb-true, leb-true, eq-eqb, ne_eqb}
 use Rattle.std.proofs.Math.Bool.{or-false}
 use Rattle.std.proofs.lemmas.List.{length_push}
-use Rattle.std.proofs.lemmas.List.Elements.{All-nil, All-cons, All-push}
+use Rattle.std.proofs.lemmas.List.Elements.{All-nil, All-cons, All-push, All-append}
 use Rattle.usb_machine.specs.declared.layout.Shape.{Shape}
 use Rattle.usb_run.specs.declared.scene.Scene.{Scene}
 use Rattle.usb_run.specs.declared.scene.SceneDevice.{SceneDevice}
@@ -23,7 +23,7 @@ use Rattle.usb_run.specs.declared.rules.Cause.TheVariants as cause
 use Rattle.usb_run.specs.Prepared.{is_at, control_end, shapes_from}
 use Rattle.usb_run.specs.WellFormed.{IsBulkIn, IsItem, IsDevice, IsUrb, IsOfUrb, IsCall, IsWellFormed}
 use Rattle.usb_run.specs.Statements.{is_empty, keyword_said}
-use Rattle.usb_run.specs.Rules.{on_last, with_end, with_answers, with_call, bulk_end, may_stand, names_stand, is_new, is_within, statement_cause, scene_with, device_number, urb_number, numbered_device, has_end, ends_of, last_device}
+use Rattle.usb_run.specs.Rules.{on_last, with_end, joined, together, with_answers, with_call, bulk_end, may_stand, names_stand, is_new, is_within, statement_cause, scene_with, device_number, urb_number, numbered_device, has_end, ends_of, last_device}
 use Rattle.usb_run.proofs.Formed.{IsSound}
 
 nil : {X : Type 0} (xs : List X) → is_empty xs ≡ true → xs ≡ []
@@ -68,12 +68,27 @@ ep_devices shape [] new few none h = All-nil IsDevice
 ep_devices shape (d ∷ []) new few none h = All-cons IsDevice (with_end shape d) [] (with_first_end shape d new none (All-first IsDevice d [] h)) (All-nil IsDevice)
 ep_devices shape (d ∷ e ∷ ds) new few none h = absurd (omega arith)
 
+abbrev AreItems : Answers → Type 0
+AreItems said = All IsItem said.items
+
+joined_last : (t : Bool) (said last : Answers) → AreItems said → AreItems last
+    → All AreItems (cond t (together last said ∷ []) (last ∷ said ∷ []))
+joined_last true said last new h =
+    All-cons AreItems (together last said) [] (All-append IsItem last.items said.items h new) (All-nil AreItems)
+joined_last false said last new h = All-cons AreItems last (said ∷ []) h (All-cons AreItems said [] new (All-nil AreItems))
+
+All-joined : (said : Answers) (xs : List Answers) → AreItems said → All AreItems xs → All AreItems (joined said xs)
+All-joined said [] new h = All-cons AreItems said [] new (All-nil AreItems)
+All-joined said (last ∷ []) new h = joined_last (eqb last.address said.address) said last new (All-first AreItems last [] h)
+All-joined said (first ∷ next ∷ others) new h =
+    All-cons AreItems first (joined said (next ∷ others)) (All-first AreItems first (next ∷ others) h) (All-joined said (next ∷ others) new (All-rest AreItems first (next ∷ others) h))
+
 -- an answer line more
 answer_device : (said : Answers) (d : SceneDevice) → All IsItem said.items → IsDevice d → IsDevice (with_answers said d)
 answer_device said d new h = record {
   one_end = h.one_end;
   ends = h.ends;
-  items = All-push (λ (a : Answers). All IsItem a.items) d.answers said h.items new;
+  items = All-joined said d.answers new h.items;
 }
 
 one_found : {X : Type 0} (p : X → Bool) (x : X) → (position p (x ∷ []) ≡ Some 0) ⊎ (position p (x ∷ []) ≡ None)

@@ -126,8 +126,18 @@ bulk_end scene address size = record { device = length scene.devices - 1; addres
 abbrev pub with_end : Shape → SceneDevice → SceneDevice
 with_end shape device = record device { ends = device.ends ++ shape ∷ [] }
 
+-- one list of two of one address
+abbrev pub together : Answers → Answers → Answers
+together first next = record first { items = first.items ++ next.items }
+
+-- answers behind others, in one list with the last where they are of one address
+abbrev pub joined : Answers → List Answers → List Answers
+joined said [] = said ∷ []
+joined said (last ∷ []) = if last.address == said.address then together last said ∷ [] else last ∷ said ∷ []
+joined said (first ∷ next ∷ others) = first ∷ joined said (next ∷ others)
+
 abbrev pub with_answers : Answers → SceneDevice → SceneDevice
-with_answers answers device = record device { answers = device.answers ++ answers ∷ [] }
+with_answers said device = record device { answers = joined said device.answers }
 
 abbrev pub with_call : Call → SceneThread → SceneThread
 with_call call thread = record thread { calls = thread.calls ++ call ∷ [] }

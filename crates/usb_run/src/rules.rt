@@ -2,7 +2,7 @@
 ghost use Rattle.std.specs.Prelude.{◌≡◌, ◌<◌, ◌≤◌, ◌==◌, length, IfSome, IsTrue, OnOk};
 ghost use Rattle.std.specs.List.{list_any};
 ghost use Rattle.usb_machine.specs.declared.layout.Shape.{Shape};
-ghost use Rattle.usb_run.specs.Rules.{may_stand, device_number, urb_number, thread_number, ends_of, has_end, last_device, numbered_device, names_stand, is_new, is_within, on_last, with_end, with_answers, with_call, scene_with};
+ghost use Rattle.usb_run.specs.Rules.{may_stand, device_number, urb_number, thread_number, ends_of, has_end, last_device, numbered_device, names_stand, is_new, is_within, on_last, with_end, joined, with_answers, with_call, scene_with};
 
 use crate::scene::{Answers, Call, CallKind, Scene, SceneDevice, SceneThread, SceneUrb};
 use crate::statement::{Keyword, Statement};
@@ -150,13 +150,32 @@ fn add_end(devices: &mut List<SceneDevice>, end: Shape) -> Result<(), Memory>
     }
 }
 
+// Adds answers behind others, in one list with the last where they are of one address.
+#[tactic(auto, using(crate::proofs::Scenes::joined_push, crate::proofs::Scenes::joined_other))]
+fn join(answers: &mut List<Answers>, said: Answers) -> Result<(), Memory>
+    ensures { OnOk result (answers.new ≡ joined said answers.old) }
+{
+    match answers.pop() {
+        Some(mut last) => {
+            if last.address == said.address {
+                last.items.append(said.items)?;
+                answers.push(last)
+            } else {
+                answers.push(last)?;
+                answers.push(said)
+            }
+        }
+        None => answers.push(said),
+    }
+}
+
 #[tactic(auto, using(crate::proofs::Scenes::on_last_push))]
-fn add_answers(devices: &mut List<SceneDevice>, answers: Answers) -> Result<(), Memory>
-    ensures { OnOk result (devices.new ≡ on_last (with_answers answers) devices.old) }
+fn add_answers(devices: &mut List<SceneDevice>, said: Answers) -> Result<(), Memory>
+    ensures { OnOk result (devices.new ≡ on_last (with_answers said) devices.old) }
 {
     match devices.pop() {
         Some(mut device) => {
-            device.answers.push(answers)?;
+            join(&mut device.answers, said)?;
             devices.push(device)
         }
         None => Ok(()),

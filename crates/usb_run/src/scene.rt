@@ -11,7 +11,8 @@ pub struct Scene {
     pub threads: List<SceneThread>,
 }
 
-/// A device with its endpoints beside 00, and its scripted answers, a list for each `answer` line.
+/// A device with its endpoints beside 00, and its scripted answers. `answer` lines of one address that follow one another
+/// are one list.
 #[derive(Debug, Drop)]
 pub struct SceneDevice {
     pub name: Buf,
@@ -19,7 +20,7 @@ pub struct SceneDevice {
     pub answers: List<Answers>,
 }
 
-/// What the device answers at an address, after what earlier lines of this address say.
+/// What the device answers at an address, after what earlier lists of this address say.
 #[derive(Debug, Drop)]
 pub struct Answers {
     pub address: u8,
