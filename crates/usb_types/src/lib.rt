@@ -15,4 +15,4 @@ pub use list::List;
 pub use memory_ends::{MemSink, MemSource};
 pub use outside::{Failed, Free, Gate, Memory, Sink, Source};
 pub use std_ends::{StdSink, StdSource};
-pub use urb::{Flag, UrbId, Why};
+pub use urb::{Flag, Role, UrbId, Why};

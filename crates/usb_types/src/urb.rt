@@ -35,3 +35,14 @@ pub enum Flag {
     Off,
     Down,
 }
+
+/// What an URB of a driver is for.
+#[derive(Clone, Copy, Debug, PartialEq, Eq)]
+pub enum Role {
+    In,
+    Note,
+    Read0,
+    Read1,
+    Write,
+    Ctl,
+}

@@ -1,0 +1,263 @@
+-- The calls of a run in line order keep what holds between calls.
+use Rattle.std.proofs.Common.{ℕ, ◌≡◌, ◌≢◌, ◌+◌, ◌<◌, Bool, true, false, cond, eqb, Option, Some, List, [], ◌∷◌, ◌++◌, length, map, refl, sym, ap, ◌∙◌, subst, arith, append_assoc, append-nil, eq-eqb, ne_eqb, true≢false}
+use Rattle.std.specs.Prelude.{slice_get}
+use Rattle.std.specs.List.{flat_map, All, sum_by}
+use Rattle.std.proofs.lemmas.List.{map-append}
+use Rattle.std.proofs.lemmas.List.Sums.{sum_by_push}
+use Rattle.std.proofs.lemmas.List.Elements.{filter-append, All-nil, All-push}
+use Rattle.std.proofs.lemmas.Grind.{flat_map-append}
+use mathlib.Core.Logic.{dite}
+use native.Mathlib.Decide.{ℕ_discrete}
+use Rattle.usb_types.specs.declared.errno.Code.{Code}
+use Rattle.usb_machine.specs.State.{unlinking}
+use Rattle.usb_machine.specs.History.{state_of}
+use Rattle.usb_machine.specs.Calls.{claim_entries, unblock_entries}
+use Rattle.usb_machine.specs.declared.entry.TheConstants.{SERVER, HUB}
+use Rattle.usb_machine.specs.Parts.{part_of}
+use Rattle.usb_machine.specs.Legal.{empty}
+use Rattle.usb_scene.specs.declared.scene.Scene.{Scene}
+use Rattle.usb_scene.specs.declared.scene.SceneThread.{SceneThread}
+use Rattle.usb_scene.specs.declared.scene.Call.{Call}
+use Rattle.usb_scene.specs.WellFormed.{IsCall, IsThread, IsWellFormed, raised, withdrawn, is_hub_call}
+use Rattle.usb_line.specs.declared.made.Deed.{Deed}
+use Rattle.usb_line.specs.declared.made.Deed.TheVariants as deed
+use Rattle.usb_line.specs.declared.made.CallAnswer.{CallAnswer}
+use Rattle.usb_line.specs.declared.made.CallAnswer.TheVariants as told
+use Rattle.usb_line.specs.Prepared.{pass_of, deed_of, calls_of, is_hub}
+use Rattle.usb_line.specs.Run.{Doing, urbs_of, call_entries, deed_entries, IsMade, IsAnswered, down_after, AreDowns, done_by}
+use Rattle.usb_line.specs.Line.{Progress, at_start, adds, doing, with_doing, woken, killing, shutting, ClaimsEach, none, one, Makes, at_once, served, killed, poisoned, shut_down, IsLine, start, call}
+use Rattle.usb_line.proofs.Held.{rejects_at, down_at}
+use Rattle.usb_line.proofs.Deeds.{raises, withdraws, is_hubs, deed_raises, deed_withdraws, deed_hubs}
+use Rattle.usb_line.proofs.Effects.{rejects_effect, down_effect}
+use Rattle.usb_line.proofs.Calm.{calm_empty}
+use Rattle.usb_line.proofs.Serving.{Serves}
+use Rattle.usb_line.proofs.Turns.{gives_back_serve, gives_back_turned, idle_serves, idle_turned}
+use Rattle.usb_line.proofs.Waits.{woken_serves, woken_turned, wait_turned}
+use Rattle.usb_line.proofs.Passes.{not_server, is_pass, other_threads, thread_at, is_thread, hub_pass}
+use Rattle.usb_line.proofs.Scripted.{placed, calls_by, next_call, All-middle, of_thread, only_calls}
+use Rattle.usb_line.proofs.Makings.{IsMadeBy, made_none, made_turned, kill_made, poison_made}
+use Rattle.usb_line.proofs.Nows.{CanCall, IsCalled, now_called}
+use Rattle.usb_line.proofs.Downs.{down_called}
+
+-- whether the host is down after some calls
+abbrev pub down_by : Bool → List Doing → Bool
+down_by b [] = b
+down_by b (d ∷ ds) = down_by (down_after b (deed_of d.call) d.answer) ds
+
+-- what holds between the calls of a run in line order
+pub record Goes (s : Scene) (f : Progress) : Type 0 where
+  pub serves : Serves s f
+  pub threads : (i : ℕ) → i < length s.threads → part_of f.history (pass_of s i) ≡ flat_map (call_entries s) (done_by i f.doings)
+  pub others : (p : ℕ) → p ≢ SERVER → ((i : ℕ) → i < length s.threads → p ≢ pass_of s i) → part_of f.history p ≡ []
+  pub told : All (IsMade s) f.doings
+  pub downs : AreDowns false f.doings
+  pub down : down_by false f.doings ≡ f.down
+  -- the hub holds its flag on each URB exactly where the host is down
+  pub flags : (v : ℕ) → v < length s.urbs → down_at v (part_of f.history HUB) ≡ f.down
+  -- a thread holds the rejects that its calls raised and did not withdraw
+  pub rejects : (i : ℕ) → i < length s.threads → (v : ℕ) → rejects_at v (part_of f.history (pass_of s i)) + sum_by (withdrawn v) (calls_by i f.doings) ≡ sum_by (raised v) (calls_by i f.doings)
+
+pub goes_start : (s : Scene) → Goes s at_start
+goes_start s = record {
+  serves = record {
+    legal = empty;
+    calm = calm_empty;
+    server = refl;
+    gives = refl;
+    firsts = tt;
+    replies = λ e. refl;
+    moving = λ e. record { none = λ p. refl; whole = λ u others t p q. (let x : [] ≡ u ∷ others = p in cc) };
+    moves = All-nil (_);
+    handled = tt;
+  };
+  threads = λ i l. refl;
+  others = λ p off none. refl;
+  told = All-nil (IsMade s);
+  downs = tt;
+  down = refl;
+  flags = λ v l. refl;
+  rejects = λ i l v. refl;
+}
+
+AreDowns-push : (b : Bool) (ds : List Doing) (d : Doing) → AreDowns b ds → d.down ≡ down_by b ds → AreDowns b (ds ++ d ∷ [])
+AreDowns-push b [] d all e = (e, tt)
+AreDowns-push b (x ∷ ds) d all e = (all.0, AreDowns-push (down_after b (deed_of x.call) x.answer) ds d all.1 e)
+
+down_by-push : (b : Bool) (ds : List Doing) (d : Doing) → down_by b (ds ++ d ∷ []) ≡ down_after (down_by b ds) (deed_of d.call) d.answer
+down_by-push b [] d = refl
+down_by-push b (x ∷ ds) d = down_by-push (down_after b (deed_of x.call) x.answer) ds d
+
+-- a deed that is not the hub's leaves the host as it is
+same_down : (b : Bool) (dd : Deed) (a : CallAnswer) → is_hubs dd ≡ false → down_after b dd a ≡ b
+same_down b deed.Down a e = absurd (true≢false e)
+same_down b deed.Up a e = absurd (true≢false e)
+same_down b _ a e = refl
+
+-- the calls made begin those of the scene, and this one is next
+abbrev pub IsNext : Scene → Progress → ℕ → Call → Type 0
+IsNext s f i c = (rest : List (ℕ × Call)) × (map placed f.doings ++ (i, c) ∷ rest ≡ calls_of s)
+
+module _ (s : Scene) (good : IsWellFormed s) (f : Progress) (i : ℕ) (c : Call) (old : Goes s f) (near : i < length s.threads) (next : IsNext s f i c) where
+  abbrev p : ℕ
+  p = pass_of s i
+
+  abbrev thread : SceneThread
+  thread = (thread_at s.threads i near).0
+
+  is_at : slice_get s.threads i ≡ Some thread
+  is_at = (thread_at s.threads i near).1
+
+  formed : IsThread s thread
+  formed = is_thread s good i thread is_at
+
+  abbrev behind : List Call
+  behind = only_calls (of_thread i next.0)
+
+  split : thread.calls ≡ calls_by i f.doings ++ c ∷ behind
+  split = next_call s f.doings i c next.0 next.1 thread is_at
+
+  pub is_call : IsCall s c
+  is_call = All-middle (IsCall s) (calls_by i f.doings) c behind (subst (All (IsCall s)) split formed.calls)
+
+  is_backed : (v : ℕ) → withdraws v (deed_of c) ≡ 1 → 0 < rejects_at v (part_of f.history p)
+  is_backed v e = let held = formed.held.held (calls_by i f.doings) c behind v split (deed_withdraws s c is_call v ∙ e) in let sums = old.rejects i near v in omega arith
+
+  only_hub : is_hubs (deed_of c) ≡ true → p ≡ HUB
+  only_hub e = go (is_hub thread) refl
+    where
+      go : (b : Bool) → is_hub thread ≡ b → p ≡ HUB
+      go true is = hub_pass s i thread is_at is
+      go false is = let none = All-middle (λ (c : Call). is_hub_call c.code ≡ false) (calls_by i f.doings) c behind (subst (All (λ (c : Call). is_hub_call c.code ≡ false)) split (formed.hub is)) in
+          absurd (true≢false (sym e ∙ (sym (deed_hubs s c is_call) ∙ none)))
+
+  pub can_call : CanCall s f i c
+  can_call = record { serves = old.serves; near = near; is = is_call; backed = is_backed; hub = only_hub; flags = old.flags }
+
+  -- a call that was made is counted
+  module _ (d : Doing) (m : Progress) (thread_is : d.thread ≡ i) (call_is : d.call ≡ c) (found : d.down ≡ f.down) (done : IsCalled s f i d m) where
+    abbrev k : Progress
+    k = with_doing s m d
+
+    doings_are : k.doings ≡ f.doings ++ d ∷ []
+    doings_are = ap (λ l. l ++ d ∷ []) done.made.doings
+
+    done_own : done_by i k.doings ≡ done_by i f.doings ++ d ∷ []
+    done_own = ap (done_by i) doings_are ∙ (filter-append (λ (d : Doing). eqb d.thread i) f.doings (d ∷ []) ∙ ap (λ b. done_by i f.doings ++ cond b (d ∷ []) []) (eq-eqb d.thread i thread_is))
+
+    done_other : (j : ℕ) → j ≢ i → done_by j k.doings ≡ done_by j f.doings
+    done_other j off = ap (done_by j) doings_are ∙ (filter-append (λ (d : Doing). eqb d.thread j) f.doings (d ∷ [])
+        ∙ (ap (λ b. done_by j f.doings ++ cond b (d ∷ []) []) (ne_eqb d.thread j (λ e. off (sym e ∙ thread_is))) ∙ append-nil (done_by j f.doings)))
+
+    parts : (j : ℕ) → j < length s.threads → part_of k.history (pass_of s j) ≡ flat_map (call_entries s) (done_by j k.doings)
+    parts j l = dite (ℕ_discrete j i)
+        (λ is. subst (λ j. part_of k.history (pass_of s j) ≡ flat_map (call_entries s) (done_by j k.doings)) (sym is)
+        (done.made.own ∙ ((λ x. old.threads i near x ++ sym (append-nil (call_entries s d)) x)
+        ∙ (sym (flat_map-append (call_entries s) (done_by i f.doings) (d ∷ [])) ∙ ap (flat_map (call_entries s)) (sym done_own)))))
+        (λ off. done.made.elsewhere (pass_of s j) (not_server s j) (other_threads s good j i l near off) ∙ (old.threads j l ∙ ap (flat_map (call_entries s)) (sym (done_other j off))))
+
+    flags_now : (v : ℕ) → v < length s.urbs → down_at v (part_of k.history HUB) ≡ k.down
+    flags_now v l = dite (ℕ_discrete p HUB)
+        (λ hub.
+        let before : down_at v (part_of f.history p) ≡ d.down = ap (λ q. down_at v (part_of f.history q)) hub ∙ (old.flags v l ∙ sym found) in
+        ap (λ q. down_at v (part_of m.history q)) (sym hub) ∙ (ap (down_at v) done.made.own
+        ∙ (down_effect s (pass_of s d.thread) d (part_of f.history p) v l (deed_of d.call) d.answer done.answered before ∙ ap (λ b. down_after b (deed_of d.call) d.answer) (found ∙ sym done.made.down))))
+        (λ off.
+        ap (down_at v) (done.made.elsewhere HUB (λ e. absurd (omega arith)) (λ e. off (sym e))) ∙ (old.flags v l ∙ (sym done.made.down ∙ sym (same_down m.down (deed_of d.call) d.answer (ap (λ (c : Call). is_hubs (deed_of c)) call_is ∙ not_hub (is_hubs (deed_of c)) refl off)))))
+      where
+        not_hub : (b : Bool) → is_hubs (deed_of c) ≡ b → p ≢ HUB → is_hubs (deed_of c) ≡ false
+        not_hub true e off = absurd (off (only_hub e))
+        not_hub false e off = e
+
+    rejects_now : (j : ℕ) → j < length s.threads → (v : ℕ) → rejects_at v (part_of k.history (pass_of s j)) + sum_by (withdrawn v) (calls_by j k.doings) ≡ sum_by (raised v) (calls_by j k.doings)
+    rejects_now j l v = dite (ℕ_discrete j i)
+        (λ is. subst (λ j. rejects_at v (part_of k.history (pass_of s j)) + sum_by (withdrawn v) (calls_by j k.doings) ≡ sum_by (raised v) (calls_by j k.doings)) (sym is)
+        (let calls : calls_by i k.doings ≡ calls_by i f.doings ++ c ∷ [] = ap (map (λ (d : Doing). d.call)) done_own ∙ (map-append (λ (d : Doing). d.call) (done_by i f.doings) (d ∷ []) ∙ ap (λ c. calls_by i f.doings ++ c ∷ []) call_is) in
+        let down : sum_by (withdrawn v) (calls_by i k.doings) ≡ sum_by (withdrawn v) (calls_by i f.doings) + withdrawn v c = ap (sum_by (withdrawn v)) calls ∙ sum_by_push (withdrawn v) (calls_by i f.doings) c in
+        let up : sum_by (raised v) (calls_by i k.doings) ≡ sum_by (raised v) (calls_by i f.doings) + raised v c = ap (sum_by (raised v)) calls ∙ sum_by_push (raised v) (calls_by i f.doings) c in
+        let held = ap (rejects_at v) done.made.own in
+        let effect = rejects_effect s (pass_of s d.thread) d (part_of f.history p) v (deed_of d.call) d.answer done.answered (λ e. is_backed v (ap (λ c. withdraws v (deed_of c)) (sym call_is) ∙ e)) in
+        let w = deed_withdraws s c is_call v ∙ ap (λ c. withdraws v (deed_of c)) (sym call_is) in let r = deed_raises s c is_call v ∙ ap (λ c. raises v (deed_of c)) (sym call_is) in
+        let sums = old.rejects i near v in omega arith))
+        (λ off.
+        let part = ap (rejects_at v) (done.made.elsewhere (pass_of s j) (not_server s j) (other_threads s good j i l near off)) in
+        let calls : calls_by j k.doings ≡ calls_by j f.doings = ap (map (λ (d : Doing). d.call)) (done_other j off) in
+        let down = ap (sum_by (withdrawn v)) calls in let up = ap (sum_by (raised v)) calls in let sums = old.rejects j l v in omega arith)
+
+    pub counted : Goes s k
+    counted = record {
+      serves = keeps_serving done.made.serves;
+      threads = parts;
+      others = λ q off none. done.made.elsewhere q off (none i near) ∙ old.others q off none;
+      told = subst (All (IsMade s)) (sym doings_are) (All-push (IsMade s) f.doings d old.told record { thread = subst (λ j. j < length s.threads) (sym thread_is) near; answered = done.answered });
+      downs = subst (AreDowns false) (sym doings_are) (AreDowns-push false f.doings d old.downs (found ∙ sym old.down));
+      down = ap (down_by false) doings_are ∙ (down_by-push false f.doings d ∙ ap (λ b. down_after b (deed_of d.call) d.answer) (old.down ∙ sym done.made.down));
+      flags = flags_now;
+      rejects = rejects_now;
+    }
+      where
+        keeps_serving : Serves s m → Serves s k
+        keeps_serving o = record {
+          legal = o.legal;
+          calm = o.calm;
+          server = o.server;
+          gives = o.gives;
+          firsts = o.firsts;
+          replies = o.replies;
+          moving = λ e. record { none = (o.moving e).none; whole = (o.moving e).whole };
+          moves = o.moves;
+          handled = o.handled;
+        }
+
+  -- each call keeps what holds between calls
+  pub makes_go : (d : Doing) (m : Progress) → Makes s f i c d m → Goes s (with_doing s m d)
+  makes_go _ _ (at_once answer e) = counted (doing f i c answer [] []) _ refl refl refl (now_called s good f i c can_call answer e)
+  makes_go _ e (served m _ is gave idle) =
+      let begun = made_none s f p old.serves in
+      let wake = made_turned s f f (woken f) p [] (not_server s i) begun (woken_serves s f old.serves) (woken_turned f) in
+      let gone = made_turned s f (woken f) m p [] (not_server s i) wake (gives_back_serve s (woken f) m gave wake.serves) (gives_back_turned s (woken f) m gave) in
+      let last = made_turned s f m e p [] (not_server s i) gone (idle_serves s m e idle gone.serves) (idle_turned s m e idle) in
+      counted (doing f i c told.Nothing [] []) e refl refl refl record {
+        made = subst (λ dd. IsMadeBy s f p (deed_entries s p c dd told.Nothing [] [] f.down) e) (sym is) last;
+        answered = subst (λ dd. IsAnswered s (doing f i c told.Nothing [] []) dd told.Nothing) (sym is) refl;
+      }
+  makes_go _ _ (killed u m is waits) =
+      let rest : Option ℕ = (state_of m.history u).rest in
+      let mark : Code = unlinking (state_of f.history u) in
+      let d : Doing = doing f i c (told.Buffer rest) (mark ∷ []) [] in
+      let k : Progress = adds m (claim_entries p u rest ++ unblock_entries p u) in
+      counted d k refl refl refl record {
+        made = subst (λ dd. IsMadeBy s f p (deed_entries s p c dd (told.Buffer rest) (mark ∷ []) [] f.down) k) (sym is) (kill_made s p u (is_pass s i near) (not_server s i) f m old.serves waits);
+        answered = subst (λ dd. IsAnswered s d dd (told.Buffer rest)) (sym is) refl;
+      }
+  makes_go _ _ (poisoned u m is waits) =
+      let rest : Option ℕ = (state_of m.history u).rest in
+      let mark : Code = unlinking (state_of f.history u) in
+      let d : Doing = doing f i c (told.Buffer rest) (mark ∷ []) [] in
+      let k : Progress = adds m (claim_entries p u rest) in
+      counted d k refl refl refl record {
+        made = subst (λ dd. IsMadeBy s f p (deed_entries s p c dd (told.Buffer rest) (mark ∷ []) [] f.down) k) (sym is) (poison_made s p u (is_pass s i near) (not_server s i) f m old.serves waits);
+        answered = subst (λ dd. IsAnswered s d dd (told.Buffer rest)) (sym is) refl;
+      }
+  makes_go _ m (shut_down rests _ is up claims) = counted _ m refl refl refl (down_called s f i c can_call is up rests m claims)
+
+claims_doings : (s : Scene) (p : ℕ) (f : Progress) (us : List ℕ) (rests : List (Option ℕ)) (m : Progress) → ClaimsEach s p f us rests m → m.doings ≡ f.doings
+claims_doings s p f _ _ _ none = refl
+claims_doings s p f _ _ _ (one us rests u m k before waits) = (wait_turned s u m k waits).doings ∙ claims_doings s p f us rests m before
+
+-- a call adds itself to the calls made
+pub makes_doings : (s : Scene) (f : Progress) (i : ℕ) (c : Call) (d : Doing) (m : Progress) → Makes s f i c d m → (placed d ≡ (i, c)) × (m.doings ≡ f.doings)
+makes_doings s f i c _ _ (at_once answer e) = (refl, refl)
+makes_doings s f i c _ _ (served m e is gave idle) = (refl, (idle_turned s m e idle).doings ∙ (gives_back_turned s (woken f) m gave).doings)
+makes_doings s f i c _ _ (killed u m is waits) = (refl, (wait_turned s u (killing (pass_of s i) u f) m waits).doings)
+makes_doings s f i c _ _ (poisoned u m is waits) = (refl, (wait_turned s u (killing (pass_of s i) u f) m waits).doings)
+makes_doings s f i c _ _ (shut_down rests m is up claims) = (refl, claims_doings s (pass_of s i) (shutting s (pass_of s i) f) (urbs_of s) rests m claims)
+
+-- the run through calls that begin those of the scene
+pub line_goes : (s : Scene) → IsWellFormed s → (f : Progress) → IsLine s f → (rest : List (ℕ × Call)) → map placed f.doings ++ rest ≡ calls_of s → Goes s f
+line_goes s good _ start rest all = goes_start s
+line_goes s good _ (call f m i c d line near makes) rest all =
+    let same = makes_doings s f i c d m makes in
+    let before : map placed f.doings ++ (i, c) ∷ rest ≡ calls_of s
+    = sym (append_assoc (map placed f.doings) ((i, c) ∷ []) rest)
+    ∙ ((λ x. (map placed (sym same.1 x) ++ sym same.0 x ∷ []) ++ rest) ∙ (ap (λ l. l ++ rest) (sym (map-append placed m.doings (d ∷ []))) ∙ all)) in
+    makes_go s good f i c (line_goes s good f line ((i, c) ∷ rest) before) near (rest, before) d m makes

@@ -1,0 +1,206 @@
+-- The close: main kills each URB and then sees each quiet, and nothing is left.
+use Rattle.std.proofs.Common.{ℕ, ◌≡◌, ◌+◌, ◌<◌, Bool, true, false, cond, eqb, Option, List, [], ◌∷◌, ◌++◌, length, refl, sym, ap, ◌∙◌, subst, arith, append_assoc, append-nil, length-append, ne_eqb, true≢false}
+use Rattle.std.specs.List.{flat_map}
+use mathlib.Core.Logic.{dite}
+use native.Mathlib.Decide.{ℕ_discrete}
+use Rattle.usb_types.specs.declared.errno.Code.{Code}
+use Rattle.usb_types.specs.declared.errno.Code.TheVariants.{Fault}
+use Rattle.usb_types.specs.declared.urb.Why.TheVariants.{Kill}
+use Rattle.usb_types.specs.Codes.{errno_of}
+use Rattle.usb_machine.specs.declared.event.Event.{Event}
+use Rattle.usb_machine.specs.declared.event.Event.TheVariants.{Submit, Link, Take, Mark, Finish, Give, Rest, End, Reject, Withdraw, Quiet, Claim, Flag, Unflag}
+use Rattle.usb_machine.specs.declared.event.Answer.{Answer}
+use Rattle.usb_machine.specs.declared.state.UrbState.{UrbState}
+use Rattle.usb_machine.specs.declared.entry.Entry.{Entry}
+use Rattle.usb_machine.specs.State.{after, unlinks, unlinking}
+use Rattle.usb_machine.specs.History.{state_of, is_of, pending_of}
+use Rattle.usb_machine.specs.Legal.{times}
+use Rattle.usb_machine.specs.Calls.{plain_entry, mark_entry, claim_entries, unblock_entries, kill_entries}
+use Rattle.usb_machine.proofs.Steps.{state_of-snoc}
+use Rattle.usb_machine.proofs.Rooms.{pending_is_queued}
+use Rattle.usb_scene.specs.declared.scene.Scene.{Scene}
+use Rattle.usb_line.specs.Prepared.{machine_of, ends_of, home, main_pass}
+use Rattle.usb_line.specs.Run.{Giveback, giveback_entries, kills_of, seen_quiet}
+use Rattle.usb_line.specs.Line.{Progress, adds, takes_below, with_takes, round_of, given_back, replies_had, had_after, killing, Gives, unlinked, ended, woken, StaysLoud, begins, goes_on, WaitsFor, already, turns, Closes, none, one}
+use Rattle.usb_line.proofs.Entries.{AreOf, AllFollow}
+use Rattle.usb_line.proofs.MayFollow.{once, reject_follows, quiet_follows}
+use Rattle.usb_line.proofs.Takes.{below_state}
+use Rattle.usb_line.proofs.Givebacks.{giveback_other}
+use Rattle.usb_line.proofs.Stills.{IsStill, AreStill}
+use Rattle.usb_line.proofs.Calm.{IsCalm, calm_entry}
+use Rattle.usb_line.proofs.Marked.{times-append, first_at_home, marked_at_home}
+use Rattle.usb_line.proofs.Serving.{Serves, takes_serve}
+use Rattle.usb_line.proofs.Turns.{passed, gives_serve}
+use Rattle.usb_line.proofs.Waits.{woken_serves, wait_quiet}
+use Rattle.usb_line.proofs.Passes.{main_not_server, main_is_pass}
+use Rattle.usb_line.proofs.Makings.{IsMadeBy, begun, made_none, made_entries, made_on, kill_made}
+
+same_queue : (b : Bool) (s now : UrbState) → now.queued ≡ s.queued → (cond b now s).queued ≡ s.queued
+same_queue true s now e = e
+same_queue false s now e = refl
+
+-- an entry that moves no URB queues none
+queue_after : (e : Event) (a : Answer) (t : UrbState) → IsStill e → (after e a t).queued ≡ t.queued
+queue_after (Submit u n) a t is = absurd is
+queue_after (Link u) a t is = absurd is
+queue_after (Take d) a t is = absurd is
+queue_after (Finish u c) a t is = absurd is
+queue_after (Give u) a t is = absurd is
+queue_after (Rest u n) a t is = absurd is
+queue_after (End u) a t is = absurd is
+queue_after (Mark u w) a t is = same_queue (unlinks a) t _ refl
+queue_after (Reject u) a t is = refl
+queue_after (Withdraw u) a t is = refl
+queue_after (Quiet u) a t is = refl
+queue_after (Claim u) a t is = refl
+queue_after (Flag u f) a t is = refl
+queue_after (Unflag u f) a t is = refl
+
+pub still_queued : (h xs : List Entry) (v : ℕ) → AreStill xs → (state_of (h ++ xs) v).queued ≡ (state_of h v).queued
+still_queued h [] v is = ap (λ l. (state_of l v).queued) (append-nil h)
+still_queued h (x ∷ xs) v is = ap (λ l. (state_of l v).queued) (sym (append_assoc h (x ∷ []) xs))
+    ∙ (still_queued (h ++ x ∷ []) xs v is.1 ∙ (ap (λ (t : UrbState). t.queued) (state_of-snoc h x v) ∙ same_queue (is_of v x.event) (state_of h v) _ (queue_after x.event x.answer (state_of h v) is.0)))
+
+-- an URB that is not queued stays so in turns, since none is given back but one that is
+module _ (s : Scene) (v : ℕ) where
+  abbrev IsOut : Progress → Type 0
+  IsOut f = (state_of f.history v).queued ≡ false
+
+  back_out : (f : Progress) (r : Giveback) → (state_of f.history r.urb).queued ≡ true → IsOut f → IsOut (given_back s f r)
+  back_out f r queued out = ap (λ (t : UrbState). t.queued) (giveback_other s f.history r v (λ is. true≢false (sym queued ∙ (ap (λ (w : ℕ). (state_of f.history w).queued) (sym is) ∙ out)))) ∙ out
+
+  takes_out : (f : Progress) → IsOut f → IsOut (with_takes s f)
+  takes_out f out = ap (λ (t : UrbState). t.queued) (below_state s f.history (ends_of s) v) ∙ out
+
+  pub gives_out : (f k : Progress) → Gives s f k → Serves s f → IsOut f → IsOut k
+  gives_out f _ (unlinked u why t is) old out = let serves = takes_serve s f old in
+      back_out (with_takes s f) (round_of s (with_takes s f) u (Fault (errno_of why)) false t (replies_had s (with_takes s f) u))
+      (pending_is_queued (machine_of s) (with_takes s f).history u serves.legal (marked_at_home s (with_takes s f).history u is.others serves.legal is.first)) (takes_out f out)
+  gives_out f _ (ended e m u t n code unmarked passes near awake at goes) old out =
+      let serves = takes_serve s f old in let same = passed s (with_takes s f) m e passes in
+      let first : pending_of (machine_of s) (with_takes s f).history e ≡ u ∷ at.others = ap (λ h. pending_of (machine_of s) h e) (sym same.history) ∙ at.first in
+      let here = first_at_home (machine_of s) (with_takes s f).history e u at.others serves.legal first in
+      let queued = pending_is_queued (machine_of s) (with_takes s f).history u serves.legal (once u (pending_of (machine_of s) (with_takes s f).history (home s u)) at.others (ap (pending_of (machine_of s) (with_takes s f).history) (sym here) ∙ first)) in
+      back_out m (round_of s m u code true t (had_after s m e n)) (ap (λ h. (state_of h u).queued) same.history ∙ queued) (ap (λ h. (state_of h v).queued) same.history ∙ takes_out f out)
+
+  loud_out : (u : ℕ) (f m : Progress) → StaysLoud s u f m → Serves s f → IsOut f → IsOut m × Serves s m
+  loud_out u f _ (begins loud) old out = (out, old)
+  loud_out u f _ (goes_on m k before turn loud) old out = let r = loud_out u f m before old out in (gives_out m k turn r.1 r.0, gives_serve s m k turn r.1)
+
+  pub wait_out : (u : ℕ) (f k : Progress) → WaitsFor s u f k → Serves s f → IsOut f → IsOut k
+  wait_out u f _ (already quiet) old out = out
+  wait_out u f _ (turns m k before turn quiet) old out = let r = loud_out u (woken f) m before (woken_serves s f old) out in gives_out m k turn r.1 r.0
+
+-- main's kills of these URBs
+pub record AreKilled (s : Scene) (f : Progress) (us : List ℕ) (m : Progress) : Type 0 where
+  pub marks : List Code
+  pub rests : List (Option ℕ)
+  pub marks_each : length marks ≡ length us
+  pub rests_each : length rests ≡ length us
+  pub made : IsMadeBy s f (main_pass s) (kills_of (main_pass s) us marks rests) m
+  pub out : (v : ℕ) → 0 < times v us → (state_of m.history v).queued ≡ false
+
+kills-push : (p : ℕ) (us : List ℕ) (marks : List Code) (rests : List (Option ℕ)) (u : ℕ) (a : Code) (rest : Option ℕ) → length marks ≡ length us → length rests ≡ length us
+    → kills_of p (us ++ u ∷ []) (marks ++ a ∷ []) (rests ++ rest ∷ []) ≡ kills_of p us marks rests ++ kill_entries p u a rest
+kills-push p [] [] [] u a rest e d = refl
+kills-push p [] (b ∷ marks) rests u a rest e d = absurd (omega arith)
+kills-push p [] [] (r ∷ rests) u a rest e d = absurd (omega arith)
+kills-push p (v ∷ us) [] rests u a rest e d = absurd (omega arith)
+kills-push p (v ∷ us) (b ∷ marks) [] u a rest e d = absurd (omega arith)
+kills-push p (v ∷ us) (b ∷ marks) (r ∷ rests) u a rest e d = ap (λ l. kill_entries p v b r ++ l) (kills-push p us marks rests u a rest (omega arith) (omega arith))
+    ∙ sym (append_assoc (kill_entries p v b r) (kills_of p us marks rests) (kill_entries p u a rest))
+
+module _ (s : Scene) where
+  abbrev main : ℕ
+  main = main_pass s
+
+  pub closes_kill : (f : Progress) (us : List ℕ) (m : Progress) → Closes s f us m → Serves s f → AreKilled s f us m
+  closes_kill f _ _ none old = record { marks = []; rests = []; marks_each = refl; rests_each = refl; made = made_none s f main old; out = λ v l. absurd (omega arith) }
+  closes_kill f _ _ (one us u m k before waits) old =
+      let r = closes_kill f us m before old in
+      let mark : Code = unlinking (state_of m.history u) in let rest : Option ℕ = (state_of k.history u).rest in
+      let last : List Entry = claim_entries main u rest ++ unblock_entries main u in
+      let kill = kill_made s main u (main_is_pass s) (main_not_server s) m k r.made.serves waits in
+      let quiet = wait_quiet s u (killing main u m) k waits in
+      record {
+        marks = r.marks ++ mark ∷ [];
+        rests = r.rests ++ rest ∷ [];
+        marks_each = (let a = length-append r.marks (mark ∷ []) in let b = length-append us (u ∷ []) in let c = r.marks_each in omega arith);
+        rests_each = (let a = length-append r.rests (rest ∷ []) in let b = length-append us (u ∷ []) in let c = r.rests_each in omega arith);
+        made = subst (λ xs. IsMadeBy s f main xs (adds k last)) (sym (kills-push main us r.marks r.rests u mark rest r.marks_each r.rests_each))
+            (made_on s f m (adds k last) main (kills_of main us r.marks r.rests) (kill_entries main u mark rest) r.made kill);
+        out = λ v l. still_queued k.history last v (tt, (tt, (tt, tt))) ∙ dite (ℕ_discrete v u)
+            (λ is. ap (λ (w : ℕ). (state_of k.history w).queued) is ∙ quiet.0)
+            (λ off. wait_out s v u (killing main u m) k waits (begun s main u (main_is_pass s) (main_not_server s) m k r.made.serves waits).serves
+            (still_queued m.history (plain_entry main (Reject record { 0 = u }) ∷ mark_entry main Kill u mark ∷ []) v (tt, (tt, tt))
+            ∙ r.out v (let a = times-append v us (u ∷ []) in let n : cond {A = ℕ} (eqb u v) 1 0 ≡ 0 = ap (λ b. cond {A = ℕ} b 1 0) (ne_eqb u v (λ i. off (sym i))) in omega arith)));
+      }
+
+-- main rejects each of these URBs and sees it quiet
+seen_follow : (s : Scene) (p : ℕ) → p < 2 + (length s.threads + 1) → (us : List ℕ) (h : List Entry) → ((v : ℕ) → 0 < times v us → (state_of h v).queued ≡ false) → IsCalm h → AllFollow (machine_of s) h (flat_map (seen_quiet p) us)
+seen_follow s p there [] h out calm = tt
+seen_follow s p there (u ∷ us) h out calm =
+    let reject : Entry = plain_entry p (Reject record { 0 = u }) in let quiet : Entry = plain_entry p (Quiet record { 0 = u }) in
+    let here : 0 < times u (u ∷ us) = once u (u ∷ us) us refl in
+    let first = calm_entry h reject tt calm in (
+      reject_follows s h p u there,
+      (
+        quiet_follows s (h ++ reject ∷ []) p u there (still_queued h (reject ∷ []) u (tt, tt) ∙ out u here) (first u).handlers,
+        seen_follow s p there us ((h ++ reject ∷ []) ++ quiet ∷ [])
+            (λ v l. still_queued (h ++ reject ∷ []) (quiet ∷ []) v (tt, tt) ∙ (still_queued h (reject ∷ []) v (tt, tt) ∙ out v (omega arith)))
+            (calm_entry (h ++ reject ∷ []) quiet tt first),
+      ),
+    )
+
+pub seen_still : (p : ℕ) (us : List ℕ) → AreStill (flat_map (seen_quiet p) us)
+seen_still p [] = tt
+seen_still p (u ∷ us) = (tt, (tt, seen_still p us))
+
+seen_pass : (p : ℕ) (us : List ℕ) → AreOf p (flat_map (seen_quiet p) us)
+seen_pass p [] = tt
+seen_pass p (u ∷ us) = (refl, (refl, seen_pass p us))
+
+module _ (s : Scene) (f : Progress) (us : List ℕ) (m : Progress) (killed : AreKilled s f us m) where
+  -- the whole close
+  pub closed : IsMadeBy s f (main_pass s) (kills_of (main_pass s) us killed.marks killed.rests ++ flat_map (seen_quiet (main_pass s)) us) (adds m (flat_map (seen_quiet (main_pass s)) us))
+  closed = made_on s f m (adds m (flat_map (seen_quiet (main_pass s)) us)) (main_pass s) (kills_of (main_pass s) us killed.marks killed.rests) (flat_map (seen_quiet (main_pass s)) us) killed.made
+      (made_entries s m (main_pass s) (flat_map (seen_quiet (main_pass s)) us) (main_not_server s) (seen_pass (main_pass s) us)
+      (seen_follow s (main_pass s) (main_is_pass s) us m.history killed.out killed.made.serves.calm) killed.made.serves)
+
+-- a history that another begins
+abbrev pub IsLonger : Progress → Progress → Type 0
+IsLonger f m = (ys : List Entry) × (m.history ≡ f.history ++ ys)
+
+longer_none : (f : Progress) → IsLonger f f
+longer_none f = ([], sym (append-nil f.history))
+
+longer_on : (f m k : Progress) → IsLonger f m → IsLonger m k → IsLonger f k
+longer_on f m k a b = (a.0 ++ b.0, b.1 ∙ (ap (λ l. l ++ b.0) a.1 ∙ append_assoc f.history a.0 b.0))
+
+module _ (s : Scene) where
+  gives_longer : (f k : Progress) → Gives s f k → IsLonger f k
+  gives_longer f _ (unlinked u why t is) =
+      let r : Giveback = round_of s (with_takes s f) u (Fault (errno_of why)) false t (replies_had s (with_takes s f) u) in
+      (takes_below s f.history (ends_of s) ++ giveback_entries s r, append_assoc f.history (takes_below s f.history (ends_of s)) (giveback_entries s r))
+  gives_longer f _ (ended e m u t n code unmarked passes near awake at goes) =
+      let r : Giveback = round_of s m u code true t (had_after s m e n) in let same = passed s (with_takes s f) m e passes in
+      (takes_below s f.history (ends_of s) ++ giveback_entries s r, ap (λ l. l ++ giveback_entries s r) same.history ∙ append_assoc f.history (takes_below s f.history (ends_of s)) (giveback_entries s r))
+
+  loud_longer : (u : ℕ) (f m : Progress) → StaysLoud s u f m → IsLonger f m
+  loud_longer u f _ (begins loud) = longer_none f
+  loud_longer u f _ (goes_on m k before turn loud) = longer_on f m k (loud_longer u f m before) (gives_longer m k turn)
+
+  wait_longer : (u : ℕ) (f k : Progress) → WaitsFor s u f k → IsLonger f k
+  wait_longer u f _ (already quiet) = longer_none f
+  wait_longer u f _ (turns m k before turn quiet) = let a = loud_longer u (woken f) m before in longer_on f m k (a.0, a.1) (gives_longer m k turn)
+
+  pub closes_longer : (f : Progress) (us : List ℕ) (m : Progress) → Closes s f us m → IsLonger f m
+  closes_longer f _ _ none = longer_none f
+  closes_longer f _ _ (one us u m k before waits) =
+      let a = closes_longer f us m before in let b = wait_longer u (killing (main_pass s) u m) k waits in let rest : Option ℕ = (state_of k.history u).rest in
+      let last : List Entry = claim_entries (main_pass s) u rest ++ unblock_entries (main_pass s) u in
+      let begin : List Entry = plain_entry (main_pass s) (Reject record { 0 = u }) ∷ mark_entry (main_pass s) Kill u (unlinking (state_of m.history u)) ∷ [] in
+      longer_on f m (adds k last) a (
+        begin ++ (b.0 ++ last),
+        ap (λ l. l ++ last) b.1 ∙ (append_assoc (m.history ++ begin) b.0 last ∙ append_assoc m.history begin (b.0 ++ last)),
+      )

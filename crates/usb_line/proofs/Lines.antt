@@ -1,0 +1,152 @@
+-- The run in line order is a run of its scene.
+use Rattle.std.proofs.Common.{ℕ, zero, suc, ◌≡◌, ◌+◌, ◌<◌, ◌≤◌, Bool, true, false, cond, eqb, Some, List, [], ◌∷◌, ◌++◌, length, map, refl, sym, ap, ◌∙◌, subst, arith, append_assoc, append-nil, length-append, eq-eqb, true≢false}
+use Rattle.std.specs.Prelude.{slice_get}
+use Rattle.std.specs.List.{flat_map, All}
+use Rattle.std.proofs.lemmas.List.Elements.{filter-append}
+use Rattle.std.proofs.lemmas.List.{length-map}
+use mathlib.Core.Logic.{dite}
+use native.Mathlib.Decide.{ℕ_discrete}
+use Rattle.usb_machine.specs.declared.entry.Entry.{Entry}
+use Rattle.usb_machine.specs.History.{Machine, home_of, state_of, line_of, pending_of}
+use Rattle.usb_machine.specs.Parts.{part_of}
+use Rattle.usb_machine.specs.Legal.{times}
+use Rattle.usb_machine.specs.Laws.{bit, Placed}
+use Rattle.usb_machine.proofs.Places.{placed}
+use Rattle.usb_machine.proofs.Rooms.{queued_has_home, home_below, in_line_once}
+use Rattle.usb_scene.specs.declared.scene.Scene.{Scene}
+use Rattle.usb_scene.specs.WellFormed.{IsWellFormed}
+use Rattle.usb_line.specs.Prepared.{machine_of, home_at, script_of, pass_of, main_pass}
+use Rattle.usb_line.specs.Run.{urbs_of, below, Giveback, done_by, call_entries, seen_quiet, kills_of, rounds_at, replies_in, firsts_of, IsMade, AreDowns, IsOver, IsClosed, IsRun}
+use Rattle.usb_line.specs.Line.{Progress, adds, IsLineRun}
+use Rattle.usb_line.proofs.MayFollow.{once}
+use Rattle.usb_line.proofs.Marked.{times-append}
+use Rattle.usb_line.proofs.Scripts.{first_front}
+use Rattle.usb_line.proofs.Serving.{AreFirstGiven, Serves}
+use Rattle.usb_line.proofs.Passes.{not_server, not_main, main_not_server}
+use Rattle.usb_line.proofs.Scripted.{placed as call_of, calls_made}
+use Rattle.usb_line.proofs.Makings.{IsMadeBy}
+use Rattle.usb_line.proofs.Downs.{length-below}
+use Rattle.usb_line.proofs.Calls.{Goes, line_goes}
+use Rattle.usb_line.proofs.Closing.{AreKilled, closes_kill, closed, closes_longer, IsLonger, still_queued, seen_still}
+
+below_all : (n v : ℕ) → v < n → 0 < times v (below n)
+below_all zero v l = absurd (omega arith)
+below_all (suc n) v l = let a = times-append v (below n) (n ∷ []) in dite (ℕ_discrete n v)
+    (λ is. let one : cond {A = ℕ} (eqb n v) 1 0 ≡ 1 = ap (λ b. cond {A = ℕ} b 1 0) (eq-eqb n v is) in omega arith)
+    (λ off. let r = below_all n v (omega arith) in omega arith)
+
+in_pending_once : (g : Machine) (h : List Entry) (e v : ℕ) → Placed g h v → times v (pending_of g h e) ≤ bit (state_of h v).queued
+in_pending_once g h e v at = let o = at.once in dite (ℕ_discrete e (home_of g v))
+    (λ is. let a : times v (pending_of g h e) ≡ times v (pending_of g h (home_of g v)) = ap (λ d. times v (pending_of g h d)) is in omega arith)
+    (λ off. let z = at.pending_else e off in omega arith)
+
+no_urbs : (us : List ℕ) → ((v : ℕ) → times v us ≡ 0) → us ≡ []
+no_urbs [] none = refl
+no_urbs (u ∷ us) none = let l = once u (u ∷ us) us refl in let z = none u in absurd (omega arith)
+
+-- each first-given giveback, by its place
+first_at : (rounds : List Giveback) (bs : List Bool) → AreFirstGiven rounds bs → (k : ℕ) (r : Giveback) → slice_get rounds k ≡ Some r → 0 < length r.replies → slice_get bs k ≡ Some true
+first_at [] bs all k r at some = cc
+first_at (q ∷ rounds) [] all k r at some = absurd all
+first_at (q ∷ rounds) (b ∷ bs) all zero r at some = let same : q ≡ r = cc in ap Some (all.0 (subst (λ (r : Giveback). 0 < length r.replies) (sym same) some))
+first_at (q ∷ rounds) (b ∷ bs) all (suc k) r at some = first_at rounds bs all.1 k r at some
+
+-- what a pass's part gains is its part of what was added
+no_part : (h ys : List Entry) (p : ℕ) → part_of (h ++ ys) p ≡ part_of h p → part_of (h ++ ys) p ≡ part_of h p ++ part_of ys p → part_of ys p ≡ []
+no_part h ys p same grown = go (part_of ys p) (ap length (sym same ∙ grown) ∙ length-append (part_of h p) (part_of ys p))
+  where
+    go : (xs : List Entry) → length (part_of h p) ≡ length (part_of h p) + length xs → xs ≡ []
+    go [] e = refl
+    go (x ∷ xs) e = absurd (omega arith)
+
+module _ (s : Scene) (good : IsWellFormed s) (f : Progress) (run : IsLineRun s f) where
+  abbrev called : Progress
+  called = run.called
+
+  abbrev urbs : List ℕ
+  urbs = urbs_of s
+
+  abbrev last : Progress
+  last = adds run.killed (flat_map (seen_quiet (main_pass s)) urbs)
+
+  goes : Goes s called
+  goes = line_goes s good called run.in_line [] (append-nil (map call_of called.doings) ∙ run.all)
+
+  kills : AreKilled s called urbs run.killed
+  kills = closes_kill s called urbs run.killed run.closes goes.serves
+
+  made : IsMadeBy s called (main_pass s) (kills_of (main_pass s) urbs kills.marks kills.rests ++ flat_map (seen_quiet (main_pass s)) urbs) last
+  made = closed s called urbs run.killed kills
+
+  abbrev h : List Entry
+  h = last.history
+
+  serves : Serves s last
+  serves = made.serves
+
+  -- no URB is queued
+  all_out : (v : ℕ) → (state_of h v).queued ≡ false
+  all_out v = go (state_of h v).queued refl
+    where
+      go : (b : Bool) → (state_of h v).queued ≡ b → (state_of h v).queued ≡ false
+      go false is = is
+      go true is =
+          let near = home_below (machine_of s) v (queued_has_home (machine_of s) v h serves.legal is) in
+          let count = length-map s.urbs (home_at s) in
+          let here : v < length s.urbs = omega arith in
+          absurd (true≢false (sym is ∙ (still_queued run.killed.history (flat_map (seen_quiet (main_pass s)) urbs) v (seen_still (main_pass s) urbs) ∙ kills.out v (below_all (length s.urbs) v here))))
+
+  is_over : IsOver s h
+  is_over = record {
+    urbs = λ u l. (all_out u, (serves.calm u).handlers);
+    ends = λ e. (
+      no_urbs (line_of (machine_of s) h e) (λ v. (let a = in_line_once (machine_of s) h e v (placed (machine_of s) v h serves.legal) in let z = ap bit (all_out v) in omega arith)),
+      no_urbs (pending_of (machine_of s) h e) (λ v. (let a = in_pending_once (machine_of s) h e v (placed (machine_of s) v h serves.legal) in let z = ap bit (all_out v) in omega arith)),
+    );
+  }
+
+  longer : IsLonger called last
+  longer = let a = closes_longer s called urbs run.killed run.closes in (
+    a.0 ++ flat_map (seen_quiet (main_pass s)) urbs,
+    ap (λ l. l ++ flat_map (seen_quiet (main_pass s)) urbs) a.1 ∙ append_assoc called.history a.0 (flat_map (seen_quiet (main_pass s)) urbs),
+  )
+
+  no_main : part_of called.history (main_pass s) ≡ []
+  no_main = goes.others (main_pass s) (main_not_server s) (λ i l e. not_main s i l (sym e))
+
+  is_closed : IsClosed s h
+  is_closed = record {
+    marks = kills.marks;
+    rests = kills.rests;
+    before = called.history;
+    behind = longer.0;
+    each = (kills.marks_each ∙ length-below (length s.urbs), kills.rests_each ∙ length-below (length s.urbs));
+    main = made.own ∙ ap (λ l. l ++ (kills_of (main_pass s) urbs kills.marks kills.rests ++ flat_map (seen_quiet (main_pass s)) urbs)) no_main;
+    split = longer.1;
+    last = no_main;
+    silent = λ i l. no_part called.history longer.0 (pass_of s i)
+        (ap (λ k. part_of k (pass_of s i)) (sym longer.1) ∙ made.elsewhere (pass_of s i) (not_server s i) (not_main s i l))
+        (filter-append (λ x. eqb x.pass (pass_of s i)) called.history longer.0);
+  }
+
+  is_run : IsRun s h last.doings last.rounds
+  is_run = record {
+    legal = serves.legal;
+    over = is_over;
+    told = subst (All (IsMade s)) (sym made.doings) goes.told;
+    downs = subst (AreDowns false) (sym made.doings) goes.downs;
+    calls = λ i thread at. calls_made s last.doings (ap (map call_of) made.doings ∙ run.all) i thread at;
+    threads = λ i l. made.elsewhere (pass_of s i) (not_server s i) (not_main s i l) ∙ (goes.threads i l ∙ ap (λ ds. flat_map (call_entries s) (done_by i ds)) (sym made.doings));
+    closed = is_closed;
+    server = serves.server;
+    others = λ p off main none. made.elsewhere p off main ∙ goes.others p off none;
+    gives = serves.gives;
+    firsts = first_at last.rounds (firsts_of (machine_of s) h) serves.firsts;
+    replies = λ e. first_front (script_of s e) (replies_in (rounds_at s e last.rounds)) (last.so_far e) (serves.replies e);
+    moves = serves.moves;
+    handled = serves.handled;
+  }
+
+  -- the run in line order through all calls, with its close, is a run of the scene
+  pub line_is_run : IsRun s f.history f.doings f.rounds
+  line_is_run = subst (λ (g : Progress). IsRun s g.history g.doings g.rounds) (sym run.seen) is_run

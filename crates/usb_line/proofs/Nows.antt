@@ -1,0 +1,145 @@
+-- Calls that answer at once.
+use Rattle.std.proofs.Common.{ℕ, ◌≡◌, ◌+◌, ◌<◌, Bool, true, false, cond, eqb, Option, Some, None, List, [], length, map, refl, sym, ap, ◌∙◌, subst, eq-eqb}
+use Rattle.usb_types.specs.declared.errno.Errno.{Errno}
+use Rattle.usb_types.specs.declared.errno.Errno.TheVariants.{ESHUTDOWN}
+use Rattle.usb_types.specs.declared.errno.Code.TheVariants.{Fault}
+use Rattle.usb_types.specs.declared.urb.Why.TheVariants.{Unlink}
+use Rattle.usb_types.specs.declared.urb.Flag.TheVariants as flag
+use Rattle.usb_machine.specs.declared.entry.TheConstants.{HUB}
+use Rattle.usb_machine.specs.declared.event.Event.TheVariants.{Unflag}
+use Rattle.usb_machine.specs.declared.entry.Entry.{Entry}
+use Rattle.usb_machine.specs.declared.state.Flags.{Flags}
+use Rattle.usb_machine.specs.declared.state.UrbState.{UrbState}
+use Rattle.usb_machine.specs.State.{refusal}
+use Rattle.usb_machine.specs.History.{state_of}
+use Rattle.usb_machine.specs.Parts.{part_of}
+use Rattle.usb_machine.specs.Legal.{IsLegal}
+use Rattle.usb_machine.specs.Calls.{plain_entry}
+use Rattle.usb_machine.proofs.Held.{flags_are_held}
+use Rattle.usb_scene.specs.declared.scene.Scene.{Scene}
+use Rattle.usb_scene.specs.declared.scene.Call.{Call}
+use Rattle.usb_scene.specs.WellFormed.{IsCall, IsWellFormed}
+use Rattle.usb_line.specs.declared.made.Deed.{Deed}
+use Rattle.usb_line.specs.declared.made.Deed.TheVariants as deed
+use Rattle.usb_line.specs.declared.made.CallAnswer.{CallAnswer}
+use Rattle.usb_line.specs.declared.made.CallAnswer.TheVariants as told
+use Rattle.usb_line.specs.Prepared.{machine_of, fresh, submit_fault, pass_of, deed_of}
+use Rattle.usb_line.specs.Run.{urbs_of, Doing, submit_of, deed_entries, call_entries, IsShapeAnswer, IsDownAnswer, IsAnswered}
+use Rattle.usb_line.specs.Line.{Progress, adds, doing, submit_answer, answer_now}
+use Rattle.usb_line.proofs.Entries.{AllFollow}
+use Rattle.usb_line.proofs.MayFollow.{mark_follows, reject_follows, withdraw_follows, unflag_follows}
+use Rattle.usb_line.proofs.Homes.{has_home, home_takes, fresh_window}
+use Rattle.usb_line.proofs.Submits.{submit_follow}
+use Rattle.usb_line.proofs.Each.{each_follow}
+use Rattle.usb_line.proofs.Held.{rejects_at, down_at}
+use Rattle.usb_line.proofs.Deeds.{withdraws, is_hubs, IsThere, deed_there}
+use Rattle.usb_line.proofs.Effects.{entries_pass}
+use Rattle.usb_line.proofs.Serving.{Serves}
+use Rattle.usb_line.proofs.Passes.{not_server, is_pass}
+use Rattle.usb_line.proofs.Makings.{IsMadeBy, made_entries}
+
+-- what a call needs of the run before it
+pub record CanCall (s : Scene) (f : Progress) (i : ℕ) (c : Call) : Type 0 where
+  pub serves : Serves s f
+  pub near : i < length s.threads
+  pub is : IsCall s c
+  pub backed : (v : ℕ) → withdraws v (deed_of c) ≡ 1 → 0 < rejects_at v (part_of f.history (pass_of s i))
+  pub hub : is_hubs (deed_of c) ≡ true → pass_of s i ≡ HUB
+  pub flags : (v : ℕ) → v < length s.urbs → down_at v (part_of f.history HUB) ≡ f.down
+
+-- what a call did: the entries of its pass, and an answer of its kind
+pub record IsCalled (s : Scene) (f : Progress) (i : ℕ) (d : Doing) (m : Progress) : Type 0 where
+  pub made : IsMadeBy s f (pass_of s i) (call_entries s d) m
+  pub answered : IsAnswered s d (deed_of d.call) d.answer
+
+-- the URB's flag is the hub's
+pub state_down : (s : Scene) (h : List Entry) (u : ℕ) (b : Bool) → IsLegal (machine_of s) h → down_at u (part_of h HUB) ≡ b → (state_of h u).flags.down ≡ b
+state_down s h u b legal e = sym (ap (λ (f : Flags). f.down) (flags_are_held (machine_of s) u h legal)) ∙ e
+
+module _ (s : Scene) (good : IsWellFormed s) (f : Progress) (i : ℕ) (c : Call) (can : CanCall s f i c) where
+  abbrev p : ℕ
+  p = pass_of s i
+
+  abbrev h : List Entry
+  h = f.history
+
+  there : p < 2 + (length s.threads + 1)
+  there = is_pass s i can.near
+
+  abbrev made : CallAnswer → Doing
+  made a = doing f i c a [] []
+
+  abbrev entries : Deed → CallAnswer → Bool → List Entry
+  entries dd a b = deed_entries s p c dd a [] [] b
+
+  submit_now : (u : ℕ) → u < length s.urbs → AllFollow (machine_of s) h (submit_of (submit_fault s u c) p u (fresh s u c) (submit_answer (submit_fault s u c) (refusal (state_of h u))))
+  submit_now u near = go (submit_fault s u c) refl
+    where
+      go : (o : Option Errno) → submit_fault s u c ≡ o → AllFollow (machine_of s) h (submit_of o p u (fresh s u c) (submit_answer o (refusal (state_of h u))))
+      go (Some e) is = tt
+      go None is = submit_follow s h p u (fresh s u c) there (has_home s good u near) (fresh_window s good u near c can.is.bytes) refl (home_takes s good u near c is)
+
+  submit_told : (u : ℕ) → IsShapeAnswer (submit_fault s u c) (submit_answer (submit_fault s u c) (refusal (state_of h u)))
+  submit_told u = go (submit_fault s u c)
+    where
+      go : (o : Option Errno) → IsShapeAnswer o (submit_answer o (refusal (state_of h u)))
+      go None = tt
+      go (Some e) = refl
+
+  withdraw_now : (u : ℕ) → (cond {A = ℕ} (eqb u u) 1 0 ≡ 1 → 0 < rejects_at u (part_of h p)) → AllFollow (machine_of s) h (entries (deed.Unblock u) told.Done f.down)
+  withdraw_now u backed = (withdraw_follows s h p u there (backed (ap (λ b. cond {A = ℕ} b 1 0) (eq-eqb u u refl))), tt)
+
+  up_now : p ≡ HUB → (b : Bool) → f.down ≡ b → AllFollow (machine_of s) h (entries deed.Up told.Done b)
+  up_now hub false is = tt
+  up_now hub true is = subst (λ p. AllFollow (machine_of s) h (map (λ u. plain_entry p (Unflag record { 0 = u } flag.Down)) (urbs_of s))) (sym hub)
+      (each_follow (λ u. plain_entry HUB (Unflag record { 0 = u } flag.Down)) (λ u. (tt, refl)) h (machine_of s) (length s.urbs)
+      (λ u l k same. unflag_follows s k u flag.Down (ap (λ (t : UrbState). t.flags.down) same ∙ state_down s h u true can.serves.legal (can.flags u l ∙ is))))
+
+  -- the answers' premise, by deed
+  abbrev IsBacked : Deed → Type 0
+  IsBacked dd = (v : ℕ) → withdraws v dd ≡ 1 → 0 < rejects_at v (part_of h p)
+
+  told_of : (a b : CallAnswer) → Some a ≡ Some b → a ≡ b
+  told_of a b e = cc
+
+  now_follow : (dd : Deed) (a : CallAnswer) → answer_now s f c dd ≡ Some a → IsThere s dd → IsBacked dd → (is_hubs dd ≡ true → p ≡ HUB) → AllFollow (machine_of s) h (entries dd a f.down)
+  now_follow (deed.Submit u) a e near backed hub = subst (λ a. AllFollow (machine_of s) h (entries (deed.Submit u) a f.down)) (told_of _ a e) (submit_now u near)
+  now_follow (deed.Unlink u) a e near backed hub = subst (λ a. AllFollow (machine_of s) h (entries (deed.Unlink u) a f.down)) (told_of _ a e) (mark_follows s h p u there Unlink, tt)
+  now_follow (deed.Unpoison u) a e near backed hub = subst (λ a. AllFollow (machine_of s) h (entries (deed.Unpoison u) a f.down)) (told_of _ a e) (withdraw_now u (backed u))
+  now_follow (deed.Block u) a e near backed hub = subst (λ a. AllFollow (machine_of s) h (entries (deed.Block u) a f.down)) (told_of _ a e) (reject_follows s h p u there, tt)
+  now_follow (deed.Unblock u) a e near backed hub = subst (λ a. AllFollow (machine_of s) h (entries (deed.Unblock u) a f.down)) (told_of _ a e) (withdraw_now u (backed u))
+  now_follow deed.Down a e near backed hub = go f.down e
+    where
+      go : (b : Bool) → cond b (Some (told.Code (Fault ESHUTDOWN))) None ≡ Some a → AllFollow (machine_of s) h (entries deed.Down a f.down)
+      go true e = subst (λ a. AllFollow (machine_of s) h (entries deed.Down a f.down)) (told_of _ a e) tt
+      go false e = cc
+  now_follow deed.Up a e near backed hub = subst (λ a. AllFollow (machine_of s) h (entries deed.Up a f.down)) (told_of _ a e) (up_now (hub refl) f.down refl)
+  now_follow (deed.Kill u) a e near backed hub = cc
+  now_follow (deed.Poison u) a e near backed hub = cc
+  now_follow deed.Serve a e near backed hub = cc
+  now_follow deed.Other a e near backed hub = cc
+
+  now_answered : (dd : Deed) (a : CallAnswer) → answer_now s f c dd ≡ Some a → IsAnswered s (made a) dd a
+  now_answered (deed.Submit u) a e = subst (λ a. IsAnswered s (made a) (deed.Submit u) a) (told_of _ a e) (submit_told u)
+  now_answered (deed.Unlink u) a e = subst (λ a. IsAnswered s (made a) (deed.Unlink u) a) (told_of _ a e) tt
+  now_answered (deed.Unpoison u) a e = sym (told_of _ a e)
+  now_answered (deed.Block u) a e = sym (told_of _ a e)
+  now_answered (deed.Unblock u) a e = sym (told_of _ a e)
+  now_answered deed.Down a e = go f.down e
+    where
+      go : (b : Bool) → cond b (Some (told.Code (Fault ESHUTDOWN))) None ≡ Some a → IsDownAnswer b a × (a ≡ told.Done → (length (made a).marks ≡ length s.urbs) × (length (made a).rests ≡ length s.urbs))
+      go true e = (sym (told_of _ a e), λ d. (let x = told_of _ a e ∙ d in cc))
+      go false e = cc
+  now_answered deed.Up a e = sym (told_of _ a e)
+  now_answered (deed.Kill u) a e = cc
+  now_answered (deed.Poison u) a e = cc
+  now_answered deed.Serve a e = cc
+  now_answered deed.Other a e = cc
+
+  -- a call that answers at once
+  pub now_called : (a : CallAnswer) → answer_now s f c (deed_of c) ≡ Some a → IsCalled s f i (made a) (adds f (call_entries s (made a)))
+  now_called a e = let answered = now_answered (deed_of c) a e in record {
+    made = made_entries s f p (call_entries s (made a)) (not_server s i) (entries_pass s p (made a) (deed_of c) a answered)
+        (now_follow (deed_of c) a e (deed_there s c can.is) can.backed can.hub) can.serves;
+    answered = answered;
+  }

@@ -1,0 +1,84 @@
+-- The calls of a scene in line order, thread by thread.
+use Rattle.std.proofs.Common.{ℕ, zero, suc, ◌≡◌, ◌+◌, ◌<◌, true, false, cond, eqb, Some, List, [], ◌∷◌, ◌++◌, map, filter, refl, sym, ap, ◌∙◌, arith, append-nil, eq-eqb, ne_eqb}
+use Rattle.std.specs.Prelude.{slice_get}
+use Rattle.std.specs.List.{All}
+use Rattle.std.proofs.lemmas.List.{map-append}
+use Rattle.std.proofs.lemmas.List.Elements.{All-head, All-tail, filter-append}
+use Rattle.usb_scene.specs.declared.scene.Scene.{Scene}
+use Rattle.usb_scene.specs.declared.scene.SceneThread.{SceneThread}
+use Rattle.usb_scene.specs.declared.scene.Call.{Call}
+use Rattle.usb_line.specs.Prepared.{calls_from, calls_of}
+use Rattle.usb_line.specs.Run.{Doing, done_by}
+
+-- the calls of the thread with this number
+abbrev pub of_thread : ℕ → List (ℕ × Call) → List (ℕ × Call)
+of_thread k calls = filter (λ c. eqb c.0 k) calls
+
+abbrev pub only_calls : List (ℕ × Call) → List Call
+only_calls calls = map (λ c. c.1) calls
+
+abbrev numbered : ℕ → List Call → List (ℕ × Call)
+numbered i calls = map (λ call. (i, call)) calls
+
+own_calls : (i k : ℕ) (calls : List Call) → eqb i k ≡ true → only_calls (of_thread k (numbered i calls)) ≡ calls
+own_calls i k [] e = refl
+own_calls i k (c ∷ calls) e = ap (λ b. only_calls (cond b ((i, c) ∷ of_thread k (numbered i calls)) (of_thread k (numbered i calls)))) e ∙ ap (λ l. c ∷ l) (own_calls i k calls e)
+
+other_calls : (i k : ℕ) (calls : List Call) → eqb i k ≡ false → of_thread k (numbered i calls) ≡ []
+other_calls i k [] e = refl
+other_calls i k (c ∷ calls) e = ap (λ b. cond b ((i, c) ∷ of_thread k (numbered i calls)) (of_thread k (numbered i calls))) e ∙ other_calls i k calls e
+
+later_calls : (i k : ℕ) (threads : List SceneThread) → k < i → of_thread k (calls_from i threads) ≡ []
+later_calls i k [] l = refl
+later_calls i k (t ∷ threads) l =
+    let off : i ≡ k → ⊥ = λ e. absurd (omega arith) in
+    filter-append (λ c. eqb c.0 k) (numbered i t.calls) (calls_from (i + 1) threads)
+    ∙ (λ j. other_calls i k t.calls (ne_eqb i k off) j ++ later_calls (i + 1) k threads (omega arith) j)
+
+thread_calls : (i k n : ℕ) (threads : List SceneThread) (thread : SceneThread) → n ≡ i + k → slice_get threads k ≡ Some thread → only_calls (of_thread n (calls_from i threads)) ≡ thread.calls
+thread_calls i k n [] thread e at = cc
+thread_calls i zero n (t ∷ threads) thread e at =
+    let here : i ≡ n = omega arith in
+    let later : n < i + 1 = omega arith in
+    let same : t ≡ thread = cc in
+    ap only_calls (filter-append (λ c. eqb c.0 n) (numbered i t.calls) (calls_from (i + 1) threads))
+    ∙ (map-append (λ (c : ℕ × Call). c.1) (of_thread n (numbered i t.calls)) (of_thread n (calls_from (i + 1) threads))
+    ∙ ((λ j. own_calls i n t.calls (eq-eqb i n here) j ++ only_calls (later_calls (i + 1) n threads later j))
+    ∙ (append-nil t.calls ∙ ap (λ (t : SceneThread). t.calls) same)))
+thread_calls i (suc k) n (t ∷ threads) thread e at =
+    let off : i ≡ n → ⊥ = λ o. absurd (omega arith) in
+    let next : n ≡ i + 1 + k = omega arith in
+    ap only_calls (filter-append (λ c. eqb c.0 n) (numbered i t.calls) (calls_from (i + 1) threads))
+    ∙ (ap (λ l. only_calls (l ++ of_thread n (calls_from (i + 1) threads))) (other_calls i n t.calls (ne_eqb i n off))
+    ∙ thread_calls (i + 1) k n threads thread next at)
+
+-- a call with its thread's number
+abbrev pub placed : Doing → ℕ × Call
+placed d = (d.thread, d.call)
+
+-- the calls that a thread made
+abbrev pub calls_by : ℕ → List Doing → List Call
+calls_by i doings = map (λ d. d.call) (done_by i doings)
+
+made_calls : (k : ℕ) (doings : List Doing) → calls_by k doings ≡ only_calls (of_thread k (map placed doings))
+made_calls k [] = refl
+made_calls k (d ∷ doings) = elim (eqb d.thread k) as (λ b. map (λ (d : Doing). d.call) (cond b (d ∷ done_by k doings) (done_by k doings)) ≡ only_calls (cond b (placed d ∷ of_thread k (map placed doings)) (of_thread k (map placed doings))))
+    [ true ↦ ap (λ l. d.call ∷ l) (made_calls k doings) | false ↦ made_calls k doings ]
+
+-- where all calls were made in line order, each thread made its own
+pub calls_made : (s : Scene) (doings : List Doing) → map placed doings ≡ calls_of s → (i : ℕ) (thread : SceneThread) → slice_get s.threads i ≡ Some thread → calls_by i doings ≡ thread.calls
+calls_made s doings all i thread at = made_calls i doings ∙ (ap (λ l. only_calls (of_thread i l)) all ∙ thread_calls 0 i i s.threads thread (omega arith) at)
+
+-- where the calls made begin those of the scene, the next one is the next of its thread
+pub next_call : (s : Scene) (doings : List Doing) (i : ℕ) (c : Call) (rest : List (ℕ × Call)) → map placed doings ++ (i, c) ∷ rest ≡ calls_of s
+    → (thread : SceneThread) → slice_get s.threads i ≡ Some thread → thread.calls ≡ calls_by i doings ++ c ∷ only_calls (of_thread i rest)
+next_call s doings i c rest all thread at =
+    sym (thread_calls 0 i i s.threads thread (omega arith) at) ∙ (ap (λ l. only_calls (of_thread i l)) (sym all)
+    ∙ (ap only_calls (filter-append (λ c. eqb c.0 i) (map placed doings) ((i, c) ∷ rest))
+    ∙ (map-append (λ (c : ℕ × Call). c.1) (of_thread i (map placed doings)) (of_thread i ((i, c) ∷ rest))
+    ∙ (λ j. sym (made_calls i doings) j ++ only_calls (cond (eq-eqb i i refl j) ((i, c) ∷ of_thread i rest) (of_thread i rest))))))
+
+-- something that holds of each element holds of one in the midst
+pub All-middle : {X : Type 0} (P : X → Type 0) (before : List X) (x : X) (behind : List X) → All P (before ++ x ∷ behind) → P x
+All-middle P [] x behind a = All-head P x behind a
+All-middle P (y ∷ before) x behind a = All-middle P before x behind (All-tail P y (before ++ x ∷ behind) a)

@@ -1,0 +1,218 @@
+-- The turns of a run keep what holds between blocks, and no other pass takes part in them.
+use Rattle.std.proofs.Common.{ℕ, ◌≡◌, ◌≢◌, ◌<◌, Bool, true, false, cond, eqb, Some, List, [], ◌∷◌, ◌++◌, length, refl, sym, ap, ◌∙◌, subst, arith, append-nil, eq-eqb, eqb-true, true≢false}
+use Rattle.std.specs.Prelude.{slice_get}
+use Rattle.usb_types.specs.declared.errno.Code.{Code}
+use Rattle.usb_types.specs.declared.errno.Code.TheVariants.{Fault}
+use Rattle.usb_types.specs.declared.urb.Why.{Why}
+use Rattle.usb_types.specs.Codes.{errno_of}
+use Rattle.usb_machine.specs.declared.entry.TheConstants.{SERVER}
+use Rattle.usb_machine.specs.declared.state.Mark.{Mark as MarkState}
+use Rattle.usb_machine.specs.declared.state.Mark.TheVariants.{Clear, Unlinked, Finished}
+use Rattle.usb_machine.specs.declared.transfer.Transfer.{Transfer}
+use Rattle.usb_machine.specs.State.{refusal, is_clear, status_of}
+use Rattle.usb_machine.specs.Shapes.{HasWindow, Accepts}
+use Rattle.usb_machine.specs.History.{state_of, pending_of, sent_of}
+use Rattle.usb_machine.specs.Parts.{part_of}
+use Rattle.usb_machine.specs.Legal.{times}
+use Rattle.usb_machine.proofs.Rooms.{pending_is_queued, queued_has_home}
+use Rattle.usb_machine.proofs.Sent.{queued_is_sent}
+use Rattle.usb_xfer.specs.Replies.{Reply}
+use Rattle.usb_xfer.specs.Moved.{moved_state, IsWhole}
+use Rattle.usb_xfer.specs.declared.packet.Step.TheVariants.{Ended}
+use Rattle.usb_scene.specs.declared.scene.Scene.{Scene}
+use Rattle.usb_line.specs.declared.made.Outcome.TheVariants as outcome
+use Rattle.usb_line.specs.Prepared.{machine_of, ends_of, home, shape_at, script_of}
+use Rattle.usb_line.specs.Run.{Giveback, given_entries, giveback_entries, is_first, acts_again, IsGiveback, IsHandled, rounds_at, replies_in}
+use Rattle.usb_line.specs.Line.{Progress, with_takes, takes_below, is_unlinked, marked_of, had_after, GoesTo, IsServed, IsMarked, outcome_at, round_of, given_back, replies_had, waits, Passes, none, over, stops, Gives, unlinked, ended, GivesBack, one, IsIdle}
+use Rattle.usb_line.proofs.Entries.{stays}
+use Rattle.usb_line.proofs.MayFollow.{once}
+use Rattle.usb_line.proofs.Takes.{below_pass}
+use Rattle.usb_line.proofs.Givebacks.{CanGive, IsGated, IsSettled, giveback_pass}
+use Rattle.usb_line.proofs.Calm.{is_finished}
+use Rattle.usb_line.proofs.Marked.{first_at_home, marked_at_home, first_unmarked}
+use Rattle.usb_line.proofs.Scripts.{AreFirst}
+use Rattle.usb_line.proofs.Serving.{Serves, takes_serve, waits_serve, longer_replies, whole_none}
+use Rattle.usb_line.proofs.Returning.{CanReturn, left, back_serves}
+
+-- the part of a pass that is not the server's stays, and no call was made
+pub record IsTurned (f m : Progress) : Type 0 where
+  pub parts : (p : ℕ) → p ≢ SERVER → part_of m.history p ≡ part_of f.history p
+  pub doings : m.doings ≡ f.doings
+  pub down : m.down ≡ f.down
+
+pub turned_none : (f : Progress) → IsTurned f f
+turned_none f = record { parts = λ p off. refl; doings = refl; down = refl }
+
+pub turned_on : (f m k : Progress) → IsTurned f m → IsTurned m k → IsTurned f k
+turned_on f m k a b = record { parts = λ p off. b.parts p off ∙ a.parts p off; doings = b.doings ∙ a.doings; down = b.down ∙ a.down }
+
+-- passing over endpoints leaves the history and the givebacks
+pub record IsPassed (f m : Progress) : Type 0 where
+  pub history : m.history ≡ f.history
+  pub rounds : m.rounds ≡ f.rounds
+  pub doings : m.doings ≡ f.doings
+  pub down : m.down ≡ f.down
+
+pub passed : (s : Scene) (f m : Progress) (n : ℕ) → Passes s f n m → IsPassed f m
+passed s f _ n none = record { history = refl; rounds = refl; doings = refl; down = refl }
+passed s f m _ (over e _ p skip) = passed s f m e p
+passed s f _ _ (stops e m u t n p awake at goes) = let old = passed s f m e p in record { history = old.history; rounds = old.rounds; doings = old.doings; down = old.down }
+
+passes_serve : (s : Scene) (f m : Progress) (n : ℕ) → Passes s f n m → Serves s f → Serves s m
+passes_serve s f _ n none old = old
+passes_serve s f m _ (over e _ p skip) old = passes_serve s f m e p old
+passes_serve s f _ _ (stops e m u t n p awake at goes) old = woke (waits_serve s m (passes_serve s f m e p old) e u at.others t n at.first at.transfer goes.whole)
+  where
+    woke : Serves s (waits s m e n) → Serves s (waits s m e n)
+    woke q = q
+
+takes_turned : (s : Scene) (f : Progress) → IsTurned f (with_takes s f)
+takes_turned s f = record { parts = λ p off. stays SERVER f.history (takes_below s f.history (ends_of s)) (below_pass s f.history (ends_of s)) p (λ i. off (sym i)); doings = refl; down = refl }
+
+back_turned : (s : Scene) (f : Progress) (r : Giveback) → IsTurned f (given_back s f r)
+back_turned s f r = record { parts = λ p off. stays SERVER f.history (giveback_entries s r) (giveback_pass s f.history r) p (λ i. off (sym i)); doings = refl; down = refl }
+
+outcome_gated : (s : Scene) (f : Progress) (u : ℕ) (status : Code) (finished : Bool) → IsGated (state_of (f.history ++ given_entries u status finished) u) (outcome_at s f u status finished)
+outcome_gated s f u status finished = go (acts_again s f.rounds u)
+  where
+    go : (b : Bool) → IsGated (state_of (f.history ++ given_entries u status finished) u) (cond b (outcome.Again (refusal (state_of (f.history ++ given_entries u status finished) u))) outcome.Rest)
+    go true = refl
+    go false = tt
+
+outcome_handled : (s : Scene) (f : Progress) (u : ℕ) (status : Code) (finished : Bool) → IsHandled (acts_again s f.rounds u) (outcome_at s f u status finished)
+outcome_handled s f u status finished = go (acts_again s f.rounds u)
+  where
+    go : (b : Bool) → IsHandled b (cond b (outcome.Again (refusal (state_of (f.history ++ given_entries u status finished) u))) outcome.Rest)
+    go true = tt
+    go false = tt
+
+module _ (s : Scene) (f : Progress) (old : Serves s f) (u : ℕ) (t : Transfer) (among : 0 < times u (pending_of (machine_of s) f.history (home s u))) (sent : sent_of f.history u ≡ Some t) where
+  queued : (state_of f.history u).queued ≡ true
+  queued = pending_is_queued (machine_of s) f.history u old.legal among
+
+  -- what was sent lies in its buffer, and its home takes it
+  sent_fits : HasWindow t × Accepts (slice_get (machine_of s).layout.shapes (home s u)) t
+  sent_fits = let is = queued_is_sent (machine_of s) u f.history old.legal queued in let x = sym is.is ∙ sent in let same : is.transfer ≡ t = cc in
+      subst (λ t. HasWindow t × Accepts (slice_get (machine_of s).layout.shapes (home s u)) t) same (is.window, is.taken)
+
+  module _ (status : Code) (finished : Bool) (replies : List Reply) where
+    abbrev r : Giveback
+    r = round_of s f u status finished t replies
+
+    can_give : IsSettled s f.history r finished → CanGive s f.history r
+    can_give settled = record {
+      among = among;
+      has = queued_has_home (machine_of s) u f.history old.legal queued;
+      window = sent_fits.0;
+      taken = sent_fits.1;
+      settled = settled;
+      gated = outcome_gated s f u status finished;
+    }
+
+    returns : IsSettled s f.history r finished → IsGiveback s r → (0 < length replies → is_first u (pending_of (machine_of s) f.history (home s u)) ≡ true)
+        → AreFirst (script_of s (home s u)) (replies_in (rounds_at s (home s u) f.rounds) ++ (replies ++ left s f r)) → CanReturn s f r
+    returns settled back first are = record { can = can_give settled; sent = sent; giveback = back; handled = outcome_handled s f u status finished; first = first; replies = are }
+
+-- the first unlinked URB comes back with the replies that it had
+module _ (s : Scene) (f : Progress) (old : Serves s f) (u : ℕ) (why : Why) (t : Transfer) (is : IsMarked s f u why t) where
+  abbrev back : Giveback
+  back = round_of s f u (Fault (errno_of why)) false t (replies_had s f u)
+
+  abbrev pending : List ℕ
+  pending = pending_of (machine_of s) f.history (home s u)
+
+  marked_whole : IsWhole (shape_at s (home s u)) t (replies_had s f u)
+  marked_whole = go pending refl
+    where
+      go : (us : List ℕ) → pending ≡ us → IsWhole (shape_at s (home s u)) t (cond (is_first u us) (f.so_far (home s u)) [])
+      go [] e = whole_none (shape_at s (home s u)) t [] refl
+      go (v ∷ us) e = at (eqb v u) refl
+        where
+          at : (b : Bool) → eqb v u ≡ b → IsWhole (shape_at s (home s u)) t (cond b (f.so_far (home s u)) [])
+          at false no_ = whole_none (shape_at s (home s u)) t [] refl
+          at true here = (old.moving (home s u)).whole u us t (e ∙ ap (λ w. w ∷ us) (eqb-true v u here)) is.transfer
+
+  marked_first : 0 < length (replies_had s f u) → is_first u pending ≡ true
+  marked_first = go (is_first u pending)
+    where
+      go : (b : Bool) → 0 < length (cond b (f.so_far (home s u)) []) → b ≡ true
+      go true l = refl
+      go false l = absurd (omega arith)
+
+  marked_replies : AreFirst (script_of s (home s u)) (replies_in (rounds_at s (home s u) f.rounds) ++ (replies_had s f u ++ left s f back))
+  marked_replies = subst (λ l. AreFirst (script_of s (home s u)) (replies_in (rounds_at s (home s u) f.rounds) ++ l)) (sym (go (is_first u pending))) (old.replies (home s u))
+    where
+      go : (b : Bool) → cond b (f.so_far (home s u)) [] ++ cond b [] (f.so_far (home s u)) ≡ f.so_far (home s u)
+      go true = append-nil (f.so_far (home s u))
+      go false = refl
+
+  pub marked_serves : Serves s (given_back s f back)
+  marked_serves = back_serves s f back (returns s f old u t (marked_at_home s f.history u is.others old.legal is.first) is.transfer (Fault (errno_of why)) false (replies_had s f u)
+      (ap is_clear is.mark, ap status_of (sym is.mark))
+      record { state = λ e. absurd (true≢false (sym e)); whole = marked_whole }
+      marked_first marked_replies) old
+
+clear_mark : (m : MarkState) → is_unlinked m ≡ false → is_finished m ≡ false → m ≡ Clear
+clear_mark Clear a b = refl
+clear_mark (Unlinked why) a b = absurd (true≢false a)
+clear_mark (Finished code) a b = absurd (true≢false b)
+
+-- the first pending URB of an endpoint comes back with the result of its transfer
+module _ (s : Scene) (f : Progress) (old : Serves s f) (e u : ℕ) (t : Transfer) (n : ℕ) (code : Code) (near : e < ends_of s) (unmarked : marked_of s f.history ≡ []) (at : IsServed s f e u t)
+    (goes : GoesTo s f e t n (Ended code)) where
+  abbrev done : Giveback
+  done = round_of s f u code true t (had_after s f e n)
+
+  here : e ≡ home s u
+  here = first_at_home (machine_of s) f.history e u at.others old.legal at.first
+
+  first_here : pending_of (machine_of s) f.history (home s u) ≡ u ∷ at.others
+  first_here = ap (pending_of (machine_of s) f.history) (sym here) ∙ at.first
+
+  is_first_here : is_first u (pending_of (machine_of s) f.history (home s u)) ≡ true
+  is_first_here = ap (is_first u) first_here ∙ eq-eqb u u refl
+
+  ended_replies : AreFirst (script_of s (home s u)) (replies_in (rounds_at s (home s u) f.rounds) ++ (had_after s f e n ++ left s f done))
+  ended_replies =
+      let spent : had_after s f e n ++ left s f done ≡ had_after s f e n = ap (λ b. had_after s f e n ++ cond b [] (f.so_far (home s u))) is_first_here ∙ append-nil (had_after s f e n) in
+      subst (λ d. AreFirst (script_of s d) (replies_in (rounds_at s d f.rounds) ++ (had_after s f e n ++ left s f done))) here
+      (subst (λ l. AreFirst (script_of s e) (replies_in (rounds_at s e f.rounds) ++ l)) (sym spent) (longer_replies s f old e u at.others t n at.first at.transfer goes.whole))
+
+  pub ended_serves : Serves s (given_back s f done)
+  ended_serves = back_serves s f done (returns s f old u t (once u _ at.others first_here) at.transfer code true (had_after s f e n)
+      ((at.others, first_here), clear_mark (state_of f.history u).mark (first_unmarked s f.history e u at.others near unmarked at.first) (old.calm u).mark)
+      record {
+        state = λ _. subst (λ d. moved_state (shape_at s d) t (had_after s f e n) ≡ Ended code) here goes.state;
+        whole = subst (λ d. IsWhole (shape_at s d) t (had_after s f e n)) here goes.whole;
+      }
+      (λ _. is_first_here) ended_replies) old
+
+module _ (s : Scene) where
+  pub gives_serve : (f k : Progress) → Gives s f k → Serves s f → Serves s k
+  gives_serve f _ (unlinked u why t is) old = marked_serves s (with_takes s f) (takes_serve s f old) u why t is
+  gives_serve f _ (ended e m u t n code unmarked passes near awake at goes) old =
+      let same = passed s (with_takes s f) m e passes in
+      ended_serves s m (passes_serve s (with_takes s f) m e passes (takes_serve s f old)) e u t n code near (ap (marked_of s) same.history ∙ unmarked) at goes
+
+  pub gives_turned : (f k : Progress) → Gives s f k → IsTurned f k
+  gives_turned f _ (unlinked u why t is) = turned_on f (with_takes s f) _ (takes_turned s f) (back_turned s (with_takes s f) (round_of s (with_takes s f) u (Fault (errno_of why)) false t (replies_had s (with_takes s f) u)))
+  gives_turned f _ (ended e m u t n code unmarked passes near awake at goes) =
+      let same = passed s (with_takes s f) m e passes in
+      turned_on f (with_takes s f) _ (takes_turned s f) (turned_on (with_takes s f) m _
+      record { parts = λ p off. ap (λ h. part_of h p) same.history; doings = same.doings; down = same.down }
+      (back_turned s m (round_of s m u code true t (had_after s m e n))))
+
+  pub idle_serves : (f e : Progress) → IsIdle s f e → Serves s f → Serves s e
+  idle_serves f e idle old = passes_serve s (with_takes s f) e (ends_of s) idle.passed (takes_serve s f old)
+
+  pub idle_turned : (f e : Progress) → IsIdle s f e → IsTurned f e
+  idle_turned f e idle = let same = passed s (with_takes s f) e (ends_of s) idle.passed in
+      turned_on f (with_takes s f) e (takes_turned s f) record { parts = λ p off. ap (λ h. part_of h p) same.history; doings = same.doings; down = same.down }
+
+  pub gives_back_serve : (f m : Progress) → GivesBack s f m → Serves s f → Serves s m
+  gives_back_serve f _ none old = old
+  gives_back_serve f _ (one m k before turn) old = gives_serve m k turn (gives_back_serve f m before old)
+
+  pub gives_back_turned : (f m : Progress) → GivesBack s f m → IsTurned f m
+  gives_back_turned f _ none = turned_none f
+  gives_back_turned f _ (one m k before turn) = turned_on f m k (gives_back_turned f m before) (gives_turned m k turn)

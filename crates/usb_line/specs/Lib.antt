@@ -1,0 +1,4 @@
+pub mod Script
+pub mod Prepared
+pub mod Run
+pub mod Line

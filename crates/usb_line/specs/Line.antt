@@ -1,0 +1,259 @@
+-- The run in line order: calls one after another, each with the turns that it waits for, and then the close.
+use Rattle.std.specs.Prelude.{ℕ, zero, suc, ◌≡◌, ◌+◌, ◌<◌, ◌==◌, ◌&&◌, not, Bool, true, false, cond, if◌then◌else◌, ◌⊎◌, List, [], ◌∷◌, ◌++◌, length, map, filter, Option, Some, None}
+use Rattle.usb_types.specs.declared.errno.Errno.{Errno}
+use Rattle.usb_types.specs.declared.errno.Errno.TheVariants.{ESHUTDOWN}
+use Rattle.usb_types.specs.declared.errno.Code.{Code}
+use Rattle.usb_types.specs.declared.errno.Code.TheVariants.{Fault}
+use Rattle.usb_types.specs.declared.urb.Why.{Why}
+use Rattle.usb_types.specs.declared.urb.Why.TheVariants.{Kill, Shutdown}
+use Rattle.usb_types.specs.declared.urb.Flag.TheVariants as flag
+use Rattle.usb_types.specs.Codes.{errno_of}
+use Rattle.usb_machine.specs.declared.entry.TheConstants.{SERVER}
+use Rattle.usb_machine.specs.declared.event.Event.TheVariants.{Take, Reject, Flag}
+use Rattle.usb_machine.specs.declared.event.Answer.TheVariants.{Urb}
+use Rattle.usb_machine.specs.declared.state.Mark.{Mark as MarkState}
+use Rattle.usb_machine.specs.declared.state.Mark.TheVariants.{Clear, Unlinked, Finished}
+use Rattle.usb_machine.specs.declared.state.UrbState.{UrbState}
+use Rattle.usb_machine.specs.declared.entry.Entry.{Entry}
+use Rattle.usb_machine.specs.declared.transfer.Transfer.{Transfer}
+use Rattle.usb_machine.specs.State.{refusal, unlinking}
+use Rattle.usb_machine.specs.History.{state_of, line_of, pending_of, sent_of}
+use Rattle.usb_machine.specs.Calls.{entry, plain_entry, mark_entry, claim_entries, unblock_entries, marks_of}
+use Rattle.usb_xfer.specs.Replies.{Reply}
+use Rattle.usb_xfer.specs.declared.packet.Step.{Step}
+use Rattle.usb_xfer.specs.declared.packet.Step.TheVariants.{More, Waiting, Ended}
+use Rattle.usb_xfer.specs.Moved.{moved_state, IsWhole}
+use Rattle.usb_scene.specs.declared.scene.Scene.{Scene}
+use Rattle.usb_scene.specs.declared.scene.Call.{Call}
+use Rattle.usb_line.specs.declared.made.Deed.{Deed}
+use Rattle.usb_line.specs.declared.made.Deed.TheVariants as deed
+use Rattle.usb_line.specs.declared.made.CallAnswer.{CallAnswer}
+use Rattle.usb_line.specs.declared.made.CallAnswer.TheVariants as told
+use Rattle.usb_line.specs.declared.made.Outcome.{Outcome}
+use Rattle.usb_line.specs.declared.made.Outcome.TheVariants as outcome
+use Rattle.usb_line.specs.Script.{replies_from}
+use Rattle.usb_line.specs.Prepared.{machine_of, ends_of, home, shape_at, script_of, submit_fault, deed_of, pass_of, main_pass, calls_of}
+use Rattle.usb_line.specs.Run.{urbs_of, Doing, call_entries, down_after, Giveback, given_entries, giveback_entries, acts_again, rounds_at, replies_in, is_first, seen_quiet}
+use Rattle.std.specs.List.{flat_map}
+
+-- how far a run is: its history, its calls, its givebacks, for each endpoint the replies that its first pending transfer
+-- has had so far, which endpoints sleep, and whether the host is down
+pub record Progress : Type 0 where
+  pub history : List Entry
+  pub doings : List Doing
+  pub rounds : List Giveback
+  pub so_far : ℕ → List Reply
+  pub asleep : ℕ → Bool
+  pub down : Bool
+
+abbrev pub at_start : Progress
+at_start = record { history = []; doings = []; rounds = []; so_far = λ e. []; asleep = λ e. false; down = false }
+
+abbrev pub adds : Progress → List Entry → Progress
+adds f xs = record f { history = f.history ++ xs }
+
+-- a function with another value at e
+abbrev pub with_at : {X : Type 0} → ℕ → X → (ℕ → X) → ℕ → X
+with_at e x f d = if d == e then x else f d
+
+-- how many replies an endpoint has given
+abbrev pub replies_used : Scene → Progress → ℕ → ℕ
+replies_used s f e = length (replies_in (rounds_at s e f.rounds)) + length (f.so_far e)
+
+-- the server takes all that stands in the line of e, and in the lines of the endpoints below n
+abbrev pub takes : ℕ → List ℕ → List Entry
+takes e us = map (λ u. entry SERVER (Take e) (Urb record { 0 = u }) None) us
+
+abbrev pub takes_below : Scene → List Entry → ℕ → List Entry
+takes_below s h zero = []
+takes_below s h (suc e) = takes_below s h e ++ takes e (line_of (machine_of s) h e)
+
+-- a turn begins by taking all that each line gives, in endpoint order
+abbrev pub with_takes : Scene → Progress → Progress
+with_takes s f = adds f (takes_below s f.history (ends_of s))
+
+abbrev pub is_unlinked : MarkState → Bool
+is_unlinked Clear = false
+is_unlinked (Unlinked why) = true
+is_unlinked (Finished code) = false
+
+-- the pending URBs that were unlinked, in endpoint order and pending order, of the endpoints below n
+abbrev pub marked_below : Scene → List Entry → ℕ → List ℕ
+marked_below s h zero = []
+marked_below s h (suc e) = marked_below s h e ++ filter (λ u. is_unlinked (state_of h u).mark) (pending_of (machine_of s) h e)
+
+abbrev pub marked_of : Scene → List Entry → List ℕ
+marked_of s h = marked_below s h (ends_of s)
+
+-- the replies that the first pending transfer of e has had when n more came
+abbrev pub had_after : Scene → Progress → ℕ → ℕ → List Reply
+had_after s f e n = f.so_far e ++ replies_from (script_of s e) (replies_used s f e) n
+
+-- the next n replies of endpoint e are the first after which the transfer does not go on
+pub record GoesTo (s : Scene) (f : Progress) (e : ℕ) (t : Transfer) (n : ℕ) (step : Step) : Type 0 where
+  pub some : 0 < n
+  pub before : (k : ℕ) → 0 < k → k < n → moved_state (shape_at s e) t (had_after s f e k) ≡ More
+  pub state : moved_state (shape_at s e) t (had_after s f e n) ≡ step
+  pub whole : IsWhole (shape_at s e) t (had_after s f e n)
+
+-- the URB that is first pending at e, with the transfer that it was submitted with
+pub record IsServed (s : Scene) (f : Progress) (e u : ℕ) (t : Transfer) : Type 0 where
+  pub others : List ℕ
+  pub first : pending_of (machine_of s) f.history e ≡ u ∷ others
+  pub transfer : sent_of f.history u ≡ Some t
+
+-- the first of the pending URBs that were unlinked, why it was, and its transfer
+pub record IsMarked (s : Scene) (f : Progress) (u : ℕ) (why : Why) (t : Transfer) : Type 0 where
+  pub others : List ℕ
+  pub first : marked_of s f.history ≡ u ∷ others
+  pub mark : (state_of f.history u).mark ≡ Unlinked why
+  pub transfer : sent_of f.history u ≡ Some t
+
+-- the handler of u submits again as often as the scene says, and is answered by the gate
+abbrev pub outcome_at : Scene → Progress → ℕ → Code → Bool → Outcome
+outcome_at s f u status finished =
+    if acts_again s f.rounds u then outcome.Again (refusal (state_of (f.history ++ given_entries u status finished) u)) else outcome.Rest
+
+abbrev pub round_of : Scene → Progress → ℕ → Code → Bool → Transfer → List Reply → Giveback
+round_of s f u status finished t replies =
+    record { urb = u; status = status; finished = finished; sent = t; replies = replies; outcome = outcome_at s f u status finished }
+
+-- a giveback of the first pending URB of its endpoint leaves no replies for the next
+abbrev pub given_back : Scene → Progress → Giveback → Progress
+given_back s f r = record f {
+    history = f.history ++ giveback_entries s r;
+    rounds = f.rounds ++ r ∷ [];
+    so_far = if is_first r.urb (pending_of (machine_of s) f.history (home s r.urb)) then with_at (home s r.urb) [] f.so_far else f.so_far;
+}
+
+-- the replies that a pending URB has had: those of its endpoint, where it is first
+abbrev pub replies_had : Scene → Progress → ℕ → List Reply
+replies_had s f u = if is_first u (pending_of (machine_of s) f.history (home s u)) then f.so_far (home s u) else []
+
+-- the first pending transfer of e waits after n more replies, and the endpoint sleeps
+abbrev pub waits : Scene → Progress → ℕ → ℕ → Progress
+waits s f e n = record f { so_far = with_at e (had_after s f e n) f.so_far; asleep = with_at e true f.asleep }
+
+-- the endpoints below n were gone through, and each slept, had nothing pending, or waits now
+pub data Passes (s : Scene) (f : Progress) : ℕ → Progress → Type 0 where
+  none : Passes s f 0 f
+  over : (e : ℕ) (m : Progress) → Passes s f e m → (m.asleep e ≡ true) ⊎ (pending_of (machine_of s) m.history e ≡ []) → Passes s f (suc e) m
+  stops : (e : ℕ) (m : Progress) (u : ℕ) (t : Transfer) (n : ℕ) → Passes s f e m → m.asleep e ≡ false → IsServed s m e u t → GoesTo s m e t n Waiting
+      → Passes s f (suc e) (waits s m e n)
+
+-- a turn that gives one URB back, with its handler: the first that was unlinked, and where none was, the first whose
+-- transfer ends
+pub data Gives (s : Scene) (f : Progress) : Progress → Type 0 where
+  unlinked : (u : ℕ) (why : Why) (t : Transfer) → IsMarked s (with_takes s f) u why t
+      → Gives s f (given_back s (with_takes s f) (round_of s (with_takes s f) u (Fault (errno_of why)) false t (replies_had s (with_takes s f) u)))
+  ended : (e : ℕ) (m : Progress) (u : ℕ) (t : Transfer) (n : ℕ) (code : Code) → marked_of s (with_takes s f).history ≡ [] → Passes s (with_takes s f) e m → e < ends_of s
+      → m.asleep e ≡ false → IsServed s m e u t → GoesTo s m e t n (Ended code)
+      → Gives s f (given_back s m (round_of s m u code true t (had_after s m e n)))
+
+-- a turn that gives nothing back
+pub record IsIdle (s : Scene) (f e : Progress) : Type 0 where
+  pub none : marked_of s (with_takes s f).history ≡ []
+  pub passed : Passes s (with_takes s f) (ends_of s) e
+
+-- turns that each give one URB back
+pub data GivesBack (s : Scene) (f : Progress) : Progress → Type 0 where
+  none : GivesBack s f f
+  one : (m k : Progress) → GivesBack s f m → Gives s m k → GivesBack s f k
+
+-- all endpoints are woken
+abbrev pub woken : Progress → Progress
+woken f = record f { asleep = λ e. false }
+
+-- URB u is neither queued nor in a handler
+abbrev pub is_quiet : UrbState → Bool
+is_quiet state = not state.queued && (state.handlers == 0)
+
+-- turns that each give one URB back, none of which leaves u quiet
+pub data StaysLoud (s : Scene) (u : ℕ) (f : Progress) : Progress → Type 0 where
+  begins : is_quiet (state_of f.history u) ≡ false → StaysLoud s u f f
+  goes_on : (m k : Progress) → StaysLoud s u f m → Gives s m k → is_quiet (state_of k.history u) ≡ false → StaysLoud s u f k
+
+-- turns until u is quiet, which are none where it is
+pub data WaitsFor (s : Scene) (u : ℕ) (f : Progress) : Progress → Type 0 where
+  already : is_quiet (state_of f.history u) ≡ true → WaitsFor s u f f
+  turns : (m k : Progress) → StaysLoud s u (woken f) m → Gives s m k → is_quiet (state_of k.history u) ≡ true → WaitsFor s u f k
+
+-- for each of these URBs in turn, a wait until it is quiet, and the claim of what rests with it
+pub data ClaimsEach (s : Scene) (p : ℕ) (f : Progress) : List ℕ → List (Option ℕ) → Progress → Type 0 where
+  none : ClaimsEach s p f [] [] f
+  one : (us : List ℕ) (rests : List (Option ℕ)) (u : ℕ) (m k : Progress) → ClaimsEach s p f us rests m → WaitsFor s u m k
+      → ClaimsEach s p f (us ++ u ∷ []) (rests ++ (state_of k.history u).rest ∷ []) (adds k (claim_entries p u (state_of k.history u).rest))
+
+-- the beginning of a kill: a reject, and the mark with the machine's answer
+abbrev pub killing : ℕ → ℕ → Progress → Progress
+killing p u f = adds f (plain_entry p (Reject record { 0 = u }) ∷ mark_entry p Kill u (unlinking (state_of f.history u)) ∷ [])
+
+abbrev pub with_doing : Scene → Progress → Doing → Progress
+with_doing s f d = record f { doings = f.doings ++ d ∷ []; down = down_after f.down (deed_of d.call) d.answer }
+
+abbrev pub doing : Progress → ℕ → Call → CallAnswer → List Code → List (Option ℕ) → Doing
+doing f i c answer marks rests = record { thread = i; call = c; answer = answer; marks = marks; rests = rests; down = f.down }
+
+-- a submit answers the fault of its shape, or what the gate says
+abbrev pub submit_answer : Option Errno → Code → Code
+submit_answer None code = code
+submit_answer (Some errno) code = Fault errno
+
+-- the beginning of a shutdown: all URBs are flagged, and then marked with the machine's answers
+abbrev pub all_flagged : Scene → ℕ → Progress → Progress
+all_flagged s p f = adds f (map (λ u. plain_entry p (Flag record { 0 = u } flag.Down)) (urbs_of s))
+
+abbrev pub shut_marks : Scene → ℕ → Progress → List Code
+shut_marks s p f = map (λ u. unlinking (state_of (all_flagged s p f).history u)) (urbs_of s)
+
+abbrev pub shutting : Scene → ℕ → Progress → Progress
+shutting s p f = adds (all_flagged s p f) (marks_of p Shutdown (urbs_of s) (shut_marks s p f))
+
+-- how a call of thread i goes that answers at once: its answer
+abbrev pub answer_now : Scene → Progress → Call → Deed → Option CallAnswer
+answer_now s f c (deed.Submit u) = Some (told.Code (submit_answer (submit_fault s u c) (refusal (state_of f.history u))))
+answer_now s f c (deed.Unlink u) = Some (told.Code (unlinking (state_of f.history u)))
+answer_now s f c (deed.Kill u) = None
+answer_now s f c (deed.Poison u) = None
+answer_now s f c (deed.Unpoison u) = Some told.Done
+answer_now s f c (deed.Block u) = Some told.Done
+answer_now s f c (deed.Unblock u) = Some told.Done
+answer_now s f c deed.Serve = None
+answer_now s f c deed.Down = if f.down then Some (told.Code (Fault ESHUTDOWN)) else None
+answer_now s f c deed.Up = Some told.Done
+answer_now s f c deed.Other = None
+
+-- one call of thread i: what it is with its answers, and how far the run is then, before the call is counted
+pub data Makes (s : Scene) (f : Progress) (i : ℕ) (c : Call) : Doing → Progress → Type 0 where
+  at_once : (answer : CallAnswer) → answer_now s f c (deed_of c) ≡ Some answer
+      → Makes s f i c (doing f i c answer [] []) (adds f (call_entries s (doing f i c answer [] [])))
+  served : (m e : Progress) → deed_of c ≡ deed.Serve → GivesBack s (woken f) m → IsIdle s m e → Makes s f i c (doing f i c told.Nothing [] []) e
+  killed : (u : ℕ) (m : Progress) → deed_of c ≡ deed.Kill u → WaitsFor s u (killing (pass_of s i) u f) m
+      → Makes s f i c (doing f i c (told.Buffer (state_of m.history u).rest) (unlinking (state_of f.history u) ∷ []) [])
+          (adds m (claim_entries (pass_of s i) u (state_of m.history u).rest ++ unblock_entries (pass_of s i) u))
+  poisoned : (u : ℕ) (m : Progress) → deed_of c ≡ deed.Poison u → WaitsFor s u (killing (pass_of s i) u f) m
+      → Makes s f i c (doing f i c (told.Buffer (state_of m.history u).rest) (unlinking (state_of f.history u) ∷ []) [])
+          (adds m (claim_entries (pass_of s i) u (state_of m.history u).rest))
+  shut_down : (rests : List (Option ℕ)) (m : Progress) → deed_of c ≡ deed.Down → f.down ≡ false
+      → ClaimsEach s (pass_of s i) (shutting s (pass_of s i) f) (urbs_of s) rests m
+      → Makes s f i c (doing f i c told.Done (shut_marks s (pass_of s i) f) rests) m
+
+-- the run after some calls
+pub data IsLine (s : Scene) : Progress → Type 0 where
+  start : IsLine s at_start
+  call : (f m : Progress) (i : ℕ) (c : Call) (d : Doing) → IsLine s f → i < length s.threads → Makes s f i c d m → IsLine s (with_doing s m d)
+
+-- main kills each URB in rising number
+pub data Closes (s : Scene) (f : Progress) : List ℕ → Progress → Type 0 where
+  none : Closes s f [] f
+  one : (us : List ℕ) (u : ℕ) (m k : Progress) → Closes s f us m → WaitsFor s u (killing (main_pass s) u m) k
+      → Closes s f (us ++ u ∷ []) (adds k (claim_entries (main_pass s) u (state_of k.history u).rest ++ unblock_entries (main_pass s) u))
+
+-- the run in line order through all calls of a scene, and its close
+pub record IsLineRun (s : Scene) (f : Progress) : Type 0 where
+  pub called : Progress
+  pub killed : Progress
+  pub in_line : IsLine s called
+  pub all : map (λ d. (d.thread, d.call)) called.doings ≡ calls_of s
+  pub closes : Closes s called (urbs_of s) killed
+  pub seen : f ≡ adds killed (flat_map (seen_quiet (main_pass s)) (urbs_of s))

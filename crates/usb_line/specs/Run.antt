@@ -1,0 +1,267 @@
+-- What a history has to do with a scene, in whatever order its entries came.
+use Rattle.std.specs.Prelude.{ℕ, zero, suc, ◌≡◌, ◌≢◌, ◌<◌, ◌==◌, nat_lt, Bool, true, false, not, cond, if◌then◌else◌, List, [], ◌∷◌, ◌++◌, length, map, filter, count_by, slice_get, is_some, Option, Some, None}
+use Rattle.std.specs.List.{flat_map, All}
+use Rattle.usb_types.specs.declared.errno.Errno.{Errno}
+use Rattle.usb_types.specs.declared.errno.Errno.TheVariants.{ESHUTDOWN}
+use Rattle.usb_types.specs.declared.errno.Code.{Code}
+use Rattle.usb_types.specs.declared.errno.Code.TheVariants.{Fault}
+use Rattle.usb_types.specs.declared.urb.Flag.TheVariants as flag
+use Rattle.usb_machine.specs.declared.entry.TheConstants.{SERVER}
+use Rattle.usb_machine.specs.declared.event.Event.{Event}
+use Rattle.usb_machine.specs.declared.event.Event.TheVariants.{Submit, Link, Take, Finish, Give, Rest, End, Reject, Quiet}
+use Rattle.usb_machine.specs.declared.event.Answer.{Answer}
+use Rattle.usb_machine.specs.declared.event.Answer.TheVariants.{Nothing, Code as Status, Truth}
+use Rattle.usb_machine.specs.declared.transfer.Transfer.{Transfer}
+use Rattle.usb_machine.specs.declared.entry.Entry.{Entry}
+use Rattle.usb_machine.specs.State.{is_zero, finishes}
+use Rattle.usb_machine.specs.History.{Machine, Episode, episodes_of, home_of, state_of, line_of, pending_of}
+use Rattle.usb_machine.specs.Parts.{part_of}
+use Rattle.usb_machine.specs.Legal.{IsLegal}
+use Rattle.usb_machine.specs.Calls.{entry, plain_entry, submit_entries, unlink_entries, block_entries, unblock_entries, kill_entries, poison_entries, flush_entries, unflag_entries}
+use Rattle.usb_xfer.specs.Replies.{Reply}
+use Rattle.usb_xfer.specs.declared.packet.Step.TheVariants.{Ended}
+use Rattle.usb_xfer.specs.Moved.{moved, moved_state, IsWhole}
+use Rattle.usb_scene.specs.declared.scene.Scene.{Scene}
+use Rattle.usb_scene.specs.declared.scene.SceneThread.{SceneThread}
+use Rattle.usb_scene.specs.declared.scene.Call.{Call}
+use Rattle.usb_line.specs.declared.made.Deed.{Deed}
+use Rattle.usb_line.specs.declared.made.Deed.TheVariants as deed
+use Rattle.usb_line.specs.declared.made.CallAnswer.{CallAnswer}
+use Rattle.usb_line.specs.declared.made.CallAnswer.TheVariants as told
+use Rattle.usb_line.specs.declared.made.Outcome.{Outcome}
+use Rattle.usb_line.specs.declared.made.Outcome.TheVariants as outcome
+use Rattle.usb_line.specs.Script.{replies_from}
+use Rattle.usb_line.specs.Prepared.{machine_of, ends_of, home, shape_at, script_of, fresh, submit_fault, again_of, deed_of, pass_of, main_pass}
+
+-- the numbers below n, rising
+abbrev pub below : ℕ → List ℕ
+below zero = []
+below (suc n) = below n ++ n ∷ []
+
+-- the URBs of a scene
+abbrev pub urbs_of : Scene → List ℕ
+urbs_of s = below (length s.urbs)
+
+-- a call that a thread made, with its answer, and with what its entries answered that it does not tell: what the marks
+-- of URBs were answered, what rested, and whether the host was down before
+pub record Doing : Type 0 where
+  pub thread : ℕ
+  pub call : Call
+  pub answer : CallAnswer
+  pub marks : List Code
+  pub rests : List (Option ℕ)
+  pub down : Bool
+
+abbrev pub submit_of : Option Errno → ℕ → ℕ → Transfer → Code → List Entry
+submit_of (Some errno) p u t a = []
+submit_of None p u t a = submit_entries p u t a
+
+abbrev pub killed_by : (Code → List Entry) → List Code → List Entry
+killed_by f [] = []
+killed_by f (a ∷ answers) = f a
+
+-- the entries of a call with its answers, which are its pass's own
+abbrev pub deed_entries : Scene → ℕ → Call → Deed → CallAnswer → List Code → List (Option ℕ) → Bool → List Entry
+deed_entries s p c (deed.Submit u) (told.Code a) marks rests down = submit_of (submit_fault s u c) p u (fresh s u c) a
+deed_entries s p c (deed.Unlink u) (told.Code a) marks rests down = unlink_entries p u a
+deed_entries s p c (deed.Kill u) (told.Buffer n) marks rests down = killed_by (λ a. kill_entries p u a n) marks
+deed_entries s p c (deed.Poison u) (told.Buffer n) marks rests down = killed_by (λ a. poison_entries p u a n) marks
+deed_entries s p c (deed.Unpoison u) told.Done marks rests down = unblock_entries p u
+deed_entries s p c (deed.Block u) told.Done marks rests down = block_entries p u
+deed_entries s p c (deed.Unblock u) told.Done marks rests down = unblock_entries p u
+deed_entries s p c deed.Down told.Done marks rests down = flush_entries p flag.Down (urbs_of s) marks rests
+deed_entries s p c deed.Up told.Done marks rests true = unflag_entries p flag.Down (urbs_of s)
+deed_entries s p c d a marks rests down = []
+
+abbrev pub call_entries : Scene → Doing → List Entry
+call_entries s d = deed_entries s (pass_of s d.thread) d.call (deed_of d.call) d.answer d.marks d.rests d.down
+
+-- a submit whose shape has a fault answers that fault
+abbrev pub IsShapeAnswer : Option Errno → Code → Type 0
+IsShapeAnswer None a = Unit {0}
+IsShapeAnswer (Some errno) a = a ≡ Fault errno
+
+-- down answers ESHUTDOWN exactly where the host is down
+abbrev pub IsDownAnswer : Bool → CallAnswer → Type 0
+IsDownAnswer true a = a ≡ told.Code (Fault ESHUTDOWN)
+IsDownAnswer false a = a ≡ told.Done
+
+-- an answer of the kind that the call has
+abbrev pub IsAnswered : Scene → Doing → Deed → CallAnswer → Type 0
+IsAnswered s d (deed.Submit u) (told.Code a) = IsShapeAnswer (submit_fault s u d.call) a
+IsAnswered s d (deed.Unlink u) (told.Code a) = Unit {0}
+IsAnswered s d (deed.Kill u) (told.Buffer n) = length d.marks ≡ 1
+IsAnswered s d (deed.Poison u) (told.Buffer n) = length d.marks ≡ 1
+IsAnswered s d (deed.Unpoison u) a = a ≡ told.Done
+IsAnswered s d (deed.Block u) a = a ≡ told.Done
+IsAnswered s d (deed.Unblock u) a = a ≡ told.Done
+IsAnswered s d deed.Serve a = a ≡ told.Nothing
+IsAnswered s d deed.Down a = IsDownAnswer d.down a × (a ≡ told.Done → (length d.marks ≡ length s.urbs) × (length d.rests ≡ length s.urbs))
+IsAnswered s d deed.Up a = a ≡ told.Done
+IsAnswered s d _ a = ⊥
+
+-- a call of a thread that is there, with an answer of its kind
+pub record IsMade (s : Scene) (d : Doing) : Type 0 where
+  pub thread : d.thread < length s.threads
+  pub answered : IsAnswered s d (deed_of d.call) d.answer
+
+-- whether the host is down behind a call
+abbrev pub down_after : Bool → Deed → CallAnswer → Bool
+down_after b deed.Down told.Done = true
+down_after b deed.Up a = false
+down_after b d a = b
+
+-- each call found the host as the calls before it left it
+abbrev pub AreDowns : Bool → List Doing → Type 0
+AreDowns b [] = Unit {0}
+AreDowns b (d ∷ ds) = (d.down ≡ b) × AreDowns (down_after b (deed_of d.call) d.answer) ds
+
+-- an episode that is over: its URB, its status, whether its transfer's result is the status, the transfer that was sent,
+-- the replies that moved it, and what the handler did
+pub record Giveback : Type 0 where
+  pub urb : ℕ
+  pub status : Code
+  pub finished : Bool
+  pub sent : Transfer
+  pub replies : List Reply
+  pub outcome : Outcome
+
+-- the transfer that comes back
+abbrev pub moved_in : Scene → Giveback → Transfer
+moved_in s r = moved (shape_at s (home s r.urb)) r.sent r.replies
+
+-- the transfer that is submitted again
+abbrev pub resent : Scene → Giveback → Transfer
+resent s r = record (moved_in s r) { actual = 0 }
+
+abbrev pub rest_entry : ℕ → Transfer → Entry
+rest_entry u t = entry SERVER (Rest record { 0 = u } t.number) Nothing (Some t)
+
+-- the handler rests the transfer, or submits it again and rests it where that is refused
+abbrev pub handled_by : ℕ → Transfer → Transfer → Outcome → List Entry
+handled_by u back again outcome.Rest = rest_entry u back ∷ []
+handled_by u back again (outcome.Again code) = submit_entries SERVER u again code ++ (if is_zero code then [] else rest_entry u again ∷ [])
+
+abbrev pub handler_entries : Scene → Giveback → List Entry
+handler_entries s r = handled_by r.urb (moved_in s r) (resent s r) r.outcome ++ plain_entry SERVER (End record { 0 = r.urb }) ∷ []
+
+-- the server finishes the URB where no mark stood, and gives it back
+abbrev pub given_entries : ℕ → Code → Bool → List Entry
+given_entries u status finished =
+    (if finished then entry SERVER (Finish record { 0 = u } status) (Truth true) None ∷ [] else [])
+    ++ entry SERVER (Give record { 0 = u }) (Status status) None ∷ []
+
+abbrev pub giveback_entries : Scene → Giveback → List Entry
+giveback_entries s r = given_entries r.urb r.status r.finished ++ handler_entries s r
+
+abbrev pub episode_of : Giveback → Episode
+episode_of r = record { urb = r.urb; status = Status r.status; transfer = Some r.sent }
+
+-- the replies move the transfer, nothing follows one that ends it, and a finished one has the result that they give
+pub record IsGiveback (s : Scene) (r : Giveback) : Type 0 where
+  pub state : r.finished ≡ true → moved_state (shape_at s (home s r.urb)) r.sent r.replies ≡ Ended r.status
+  pub whole : IsWhole (shape_at s (home s r.urb)) r.sent r.replies
+
+-- how often an URB came back
+abbrev pub times_back : ℕ → List Giveback → ℕ
+times_back u rounds = count_by (λ r. r.urb == u) rounds
+
+-- whether the next handler of URB u submits again: it has not done so as often as the scene says
+abbrev pub acts_again : Scene → List Giveback → ℕ → Bool
+acts_again s before u = nat_lt (times_back u before) (again_of s u)
+
+abbrev pub IsHandled : Bool → Outcome → Type 0
+IsHandled true (outcome.Again code) = Unit {0}
+IsHandled false outcome.Rest = Unit {0}
+IsHandled _ _ = ⊥
+
+-- each handler does what the scene says
+abbrev pub AreHandled : Scene → List Giveback → List Giveback → Type 0
+AreHandled s before [] = Unit {0}
+AreHandled s before (r ∷ rounds) = IsHandled (acts_again s before r.urb) r.outcome × AreHandled s (before ++ r ∷ []) rounds
+
+-- whether an entry belongs to no giveback: a Take, or a Finish that found a mark
+abbrev pub is_aside : Event → Answer → Bool
+is_aside (Take e) a = true
+is_aside (Finish u c) a = not (finishes a)
+is_aside _ a = false
+
+-- the calls that a thread made
+abbrev pub done_by : ℕ → List Doing → List Doing
+done_by i doings = filter (λ d. d.thread == i) doings
+
+-- the givebacks of an endpoint
+abbrev pub rounds_at : Scene → ℕ → List Giveback → List Giveback
+rounds_at s e rounds = filter (λ r. home s r.urb == e) rounds
+
+abbrev pub replies_in : List Giveback → List Reply
+replies_in rounds = flat_map (λ r. r.replies) rounds
+
+abbrev pub is_first : ℕ → List ℕ → Bool
+is_first u [] = false
+is_first u (v ∷ vs) = v == u
+
+-- whether each Give of these entries behind a history is of the first pending URB
+abbrev pub first_given : Machine → List Entry → Event → List Bool
+first_given g before (Give u) = is_first u.0 (pending_of g before (home_of g u.0)) ∷ []
+first_given g before _ = []
+
+abbrev pub firsts_after : Machine → List Entry → List Entry → List Bool
+firsts_after g before [] = []
+firsts_after g before (x ∷ xs) = first_given g before x.event ++ firsts_after g (before ++ x ∷ []) xs
+
+abbrev pub firsts_of : Machine → List Entry → List Bool
+firsts_of g h = firsts_after g [] h
+
+-- main's own entries: it kills each URB, with these answers, and then sees each quiet under a reject
+abbrev pub kills_of : ℕ → List ℕ → List Code → List (Option ℕ) → List Entry
+kills_of p (u ∷ us) (a ∷ answers) (rest ∷ rests) = kill_entries p u a rest ++ kills_of p us answers rests
+kills_of p _ _ _ = []
+
+abbrev pub seen_quiet : ℕ → ℕ → List Entry
+seen_quiet p u = plain_entry p (Reject record { 0 = u }) ∷ plain_entry p (Quiet record { 0 = u }) ∷ []
+
+abbrev pub closing : Scene → List Code → List (Option ℕ) → List Entry
+closing s marks rests = kills_of (main_pass s) (urbs_of s) marks rests ++ flat_map (seen_quiet (main_pass s)) (urbs_of s)
+
+-- main closes with these answers, behind all that the threads did
+pub record IsClosed (s : Scene) (h : List Entry) : Type 0 where
+  pub marks : List Code
+  pub rests : List (Option ℕ)
+  pub before : List Entry
+  pub behind : List Entry
+  pub each : (length marks ≡ length s.urbs) × (length rests ≡ length s.urbs)
+  pub main : part_of h (main_pass s) ≡ closing s marks rests
+  pub split : h ≡ before ++ behind
+  pub last : part_of before (main_pass s) ≡ []
+  pub silent : (i : ℕ) → i < length s.threads → part_of behind (pass_of s i) ≡ []
+
+-- nothing is left: no URB is queued, no handler runs, and all lists are empty
+pub record IsOver (s : Scene) (h : List Entry) : Type 0 where
+  pub urbs : (u : ℕ) → u < length s.urbs → ((state_of h u).queued ≡ false) × ((state_of h u).handlers ≡ 0)
+  pub ends : (e : ℕ) → (line_of (machine_of s) h e ≡ []) × (pending_of (machine_of s) h e ≡ [])
+
+-- the history is one of this scene, with these calls and answers, and these givebacks
+pub record IsRun (s : Scene) (h : List Entry) (doings : List Doing) (rounds : List Giveback) : Type 0 where
+  -- each entry may come where it stands, and has the machine's answer
+  pub legal : IsLegal (machine_of s) h
+  pub over : IsOver s h
+  -- each call is one of a thread, has its answer, and found the host as it was left
+  pub told : All (IsMade s) doings
+  pub downs : AreDowns false doings
+  -- each thread made the calls of its script, each once and in order
+  pub calls : (i : ℕ) (thread : SceneThread) → slice_get s.threads i ≡ Some thread → map (λ d. d.call) (done_by i doings) ≡ thread.calls
+  -- a thread's part of the history is the entries of its calls with their answers
+  pub threads : (i : ℕ) → i < length s.threads → part_of h (pass_of s i) ≡ flat_map (call_entries s) (done_by i doings)
+  pub closed : IsClosed s h
+  -- the server takes and finds marks, and beside this it gives back and handles one URB after another
+  pub server : filter (λ x. not (is_aside x.event x.answer)) (part_of h SERVER) ≡ flat_map (giveback_entries s) rounds
+  -- no other pass has an entry
+  pub others : (p : ℕ) → p ≢ SERVER → p ≢ main_pass s → ((i : ℕ) → i < length s.threads → p ≢ pass_of s i) → part_of h p ≡ []
+  -- each Give ends the episode of its giveback, and one whose transfer had replies is of a first pending URB
+  pub gives : episodes_of h ≡ map episode_of rounds
+  pub firsts : (k : ℕ) (r : Giveback) → slice_get rounds k ≡ Some r → 0 < length r.replies → slice_get (firsts_of (machine_of s) h) k ≡ Some true
+  -- the replies of an endpoint's givebacks are the first that its script gives
+  pub replies : (e : ℕ) → let had = replies_in (rounds_at s e rounds) in had ≡ replies_from (script_of s e) 0 (length had)
+  pub moves : All (IsGiveback s) rounds
+  pub handled : AreHandled s [] rounds

@@ -1,0 +1,62 @@
+//! What a run leaves for its report.
+
+use usb_types::{Buf, Code};
+
+/// What a call of a scene does. URBs are named by their numbers in the scene.
+#[derive(Clone, Copy, Debug, PartialEq, Eq)]
+pub enum Deed {
+    Submit(u32),
+    Unlink(u32),
+    Kill(u32),
+    Poison(u32),
+    Unpoison(u32),
+    Block(u32),
+    Unblock(u32),
+    /// Lets the controller make turns until one gives nothing back.
+    Serve,
+    Down,
+    Up,
+    /// A call that is not built yet.
+    Other,
+}
+
+/// What a call answers.
+#[derive(Clone, Copy, Debug, PartialEq, Eq)]
+pub enum CallAnswer {
+    Nothing,
+    Done,
+    Code(Code),
+    /// The number of the transfer that rested, if one did.
+    Buffer(Option<u64>),
+}
+
+/// A call that was made, with its answer.
+#[derive(Clone, Copy, Debug, PartialEq, Eq)]
+pub struct CallMade {
+    /// The thread's number in the scene.
+    pub thread: u32,
+    pub line: u32,
+    pub deed: Deed,
+    pub answer: CallAnswer,
+}
+
+/// What a completion handler did with the transfer.
+#[derive(Clone, Copy, Debug, PartialEq, Eq)]
+pub enum Outcome {
+    Rest,
+    /// It submitted the transfer again, with this answer.
+    Again(Code),
+}
+
+/// What a Give gave back, as the report tells it.
+#[derive(Debug, Drop)]
+pub struct Given {
+    /// The URB's number in the scene.
+    pub urb: u32,
+    pub status: Code,
+    /// How many bytes were moved.
+    pub actual: u32,
+    pub outcome: Outcome,
+    /// The moved bytes of an IN transfer.
+    pub bytes: Buf,
+}

@@ -1,0 +1,108 @@
+-- What holds of every scene that is read, beyond its text: numbers are those of things that are there, names stand
+-- once, sizes and counts are within their limits, and no script withdraws a reject that it does not hold.
+use Rattle.std.specs.Prelude.{ℕ, ◌≡◌, ◌≢◌, ◌+◌, ◌-◌, ◌<◌, ◌≤◌, ◌^◌, ◌⊎◌, ◌==◌, Bool, true, false, if◌then◌else◌, List, [], ◌∷◌, ◌++◌, length, slice_get, sum_by, codes, Option, Some, None}
+use Rattle.std.specs.List.{All, list_any}
+use Rattle.std.specs.Str.{bytes_eq}
+use Rattle.usb_machine.specs.declared.layout.EndKind.TheVariants.{Bulk, Interrupt, Iso}
+use Rattle.usb_machine.specs.declared.layout.Shape.{Shape}
+use Rattle.usb_xfer.specs.Direction.{goes_in}
+use Rattle.usb_xfer.specs.declared.script.What.{What}
+use Rattle.usb_xfer.specs.declared.script.What.TheVariants.{Ack, Nak, Stall, Error, Packet}
+use Rattle.usb_xfer.specs.declared.script.Item.{Item}
+use Rattle.usb_xfer.specs.declared.script.Answers.{Answers}
+use Rattle.usb_scene.specs.declared.scene.Scene.{Scene}
+use Rattle.usb_scene.specs.declared.scene.SceneDevice.{SceneDevice}
+use Rattle.usb_scene.specs.declared.scene.SceneUrb.{SceneUrb}
+use Rattle.usb_scene.specs.declared.scene.SceneThread.{SceneThread}
+use Rattle.usb_scene.specs.declared.scene.Call.{Call}
+use Rattle.usb_scene.specs.declared.scene.Target.{Target}
+use Rattle.usb_scene.specs.declared.scene.Target.TheVariants as target
+
+-- an endpoint of device number d, with an address of 01 to 0F or 81 to 8F
+pub record IsEnd (d : ℕ) (shape : Shape) : Type 0 where
+  pub device : shape.device ≡ d
+  pub address : ((0 < shape.address) × (shape.address < 16)) ⊎ ((128 < shape.address) × (shape.address < 144))
+  pub kind : (shape.kind ≡ Bulk) ⊎ (shape.kind ≡ Interrupt) ⊎ (shape.kind ≡ Iso)
+  pub most : shape.max ≤ 1024
+
+-- an item of an address that goes in, or out
+abbrev pub IsItemOf : Bool → What → Type 0
+IsItemOf goes Ack = goes ≡ false
+IsItemOf goes Nak = Unit {0}
+IsItemOf goes Stall = Unit {0}
+IsItemOf goes Error = Unit {0}
+IsItemOf goes (Packet bytes) = (goes ≡ true) × (length bytes ≤ 1024)
+
+pub record IsItem (address : ℕ) (item : Item) : Type 0 where
+  pub some : 0 < item.times
+  pub most : item.times ≤ 4096
+  pub kind : IsItemOf (goes_in address) item.what
+
+pub record IsDevice (d : ℕ) (device : SceneDevice) : Type 0 where
+  pub ends : All (IsEnd d) device.script.ends
+  pub once : (i j : ℕ) (a b : Shape) → slice_get device.script.ends i ≡ Some a → slice_get device.script.ends j ≡ Some b → a.address ≡ b.address → i ≡ j
+  pub answers : All (λ (said : Answers). All (IsItem said.address) said.items) device.script.answers
+
+-- the URB's device has an endpoint with its address
+abbrev pub HasEnd : ℕ → Option SceneDevice → Type 0
+HasEnd address None = ⊥
+HasEnd address (Some device) = list_any (λ (shape : Shape). shape.address == address) device.script.ends ≡ true
+
+pub record IsUrb (s : Scene) (urb : SceneUrb) : Type 0 where
+  pub home : HasEnd urb.address (slice_get s.devices urb.device)
+  pub len : urb.len ≤ 16384
+  pub again : urb.again ≤ 63
+
+-- the calls that are built: 1 to 7 on an URB, and 8, 21 and 22 on nothing
+abbrev pub IsBuilt : Scene → ℕ → Target → Type 0
+IsBuilt s code (target.Urb u) = (1 ≤ code) × (code ≤ 7) × (u < length s.urbs)
+IsBuilt s code target.Nothing = (code ≡ 8) ⊎ (code ≡ 21) ⊎ (code ≡ 22)
+IsBuilt s code _ = ⊥
+
+abbrev pub IsBuffer : Option (List ℕ) → Type 0
+IsBuffer None = Unit {0}
+IsBuffer (Some bytes) = length bytes ≤ 16384
+
+pub record IsCall (s : Scene) (c : Call) : Type 0 where
+  pub line : c.line < 2 ^ 31
+  pub built : IsBuilt s c.code c.target
+  pub setup : c.setup ≡ None
+  pub bytes : IsBuffer c.bytes
+
+abbrev pub is_on : ℕ → Target → Bool
+is_on u (target.Urb v) = v == u
+is_on u _ = false
+
+-- how many rejects a call raises on an URB: poison and block one
+abbrev pub raised : ℕ → Call → ℕ
+raised u c = if is_on u c.target then (if c.code == 4 then 1 else if c.code == 6 then 1 else 0) else 0
+
+-- and how many it withdraws: unpoison and unblock one
+abbrev pub withdrawn : ℕ → Call → ℕ
+withdrawn u c = if is_on u c.target then (if c.code == 5 then 1 else if c.code == 7 then 1 else 0) else 0
+
+-- how many rejects a script holds on URB u after some calls
+abbrev pub held_on : ℕ → List Call → ℕ
+held_on u calls = sum_by (raised u) calls - sum_by (withdrawn u) calls
+
+-- each call that withdraws finds a reject of its script, and never more than 100 are held
+pub record AreHeld (calls : List Call) : Type 0 where
+  pub held : (before : List Call) (c : Call) (behind : List Call) (u : ℕ) → calls ≡ before ++ c ∷ behind → withdrawn u c ≡ 1 → 0 < held_on u before
+  pub most : (before behind : List Call) (u : ℕ) → calls ≡ before ++ behind → held_on u before ≤ 100
+
+abbrev pub is_hub_call : ℕ → Bool
+is_hub_call code = if code == 21 then true else if code == 22 then true else false
+
+pub record IsThread (s : Scene) (thread : SceneThread) : Type 0 where
+  pub calls : All (IsCall s) thread.calls
+  pub held : AreHeld thread.calls
+  pub hub : bytes_eq thread.name (codes "hub") ≡ false → All (λ (c : Call). is_hub_call c.code ≡ false) thread.calls
+
+pub record IsWellFormed (s : Scene) : Type 0 where
+  pub few_devices : length s.devices ≤ 16
+  pub few_urbs : length s.urbs ≤ 256
+  pub few_threads : length s.threads ≤ 16
+  pub devices : (d : ℕ) (device : SceneDevice) → slice_get s.devices d ≡ Some device → IsDevice d device
+  pub urbs : All (IsUrb s) s.urbs
+  pub threads : All (IsThread s) s.threads
+  pub names : (i j : ℕ) (a b : SceneThread) → slice_get s.threads i ≡ Some a → slice_get s.threads j ≡ Some b → a.name ≡ b.name → i ≡ j
