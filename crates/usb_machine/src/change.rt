@@ -1,35 +1,11 @@
 //! What an event answers by the state of its URB, and what it changes there.
 ghost use Rattle.std.specs.Prelude.{◌≡◌, ◌↔◌, IsTrue, false, [], not};
-ghost use Rattle.usb_machine.specs.State.{opening, is_clear, after, answer_of, refusal, unlinking, status_of, has_flag as flag_of, no_flags as none, with_flag as flags_with};
+ghost use Rattle.usb_machine.specs.State.{is_clear, after, answer_of, refusal, unlinking, status_of, has_flag as flag_of, with_flag as flags_with};
 ghost use Rattle.usb_machine.specs.Plain.{IsOfUrb, CanCount};
 
 use crate::event::{Answer, Event};
 use crate::state::{Flags, Mark, UrbState};
 use usb_types::{Code, Errno, Flag};
-
-pub(crate) fn no_flags() -> Flags
-    ensures { result ≡ none }
-{
-    Flags {
-        gone: false,
-        off: false,
-        down: false,
-    }
-}
-
-/// The state of each URB at first.
-pub(crate) fn at_first() -> UrbState
-    ensures { result ≡ opening }
-{
-    UrbState {
-        queued: false,
-        mark: Mark::Clear,
-        rejects: 0,
-        flags: no_flags(),
-        handlers: 0,
-        rest: None,
-    }
-}
 
 fn refused(state: &UrbState) -> Code
     ensures { result ≡ refusal state.now }

@@ -3,9 +3,9 @@ ghost use Rattle.std.specs.Prelude.{◌≡◌};
 ghost use Rattle.usb_machine.specs.Parts.{nothing_held, any_flag as any_of, holds_any as holds_any_of, while_held as while_held_of, held_after};
 ghost use Rattle.usb_machine.specs.Rows.{CanHold, no_row, row_after};
 
-use crate::change::{no_flags, with_flag};
+use crate::change::with_flag;
 use crate::event::{Answer, Event};
-use crate::state::Flags;
+use crate::state::{Flags, no_flags};
 use usb_types::Code;
 
 /// What a pass holds against an URB: its rejects, its flags, and whether it keeps the URB quiet.

@@ -1,12 +1,12 @@
 ghost use Rattle.std.specs.Prelude.{◌≡◌, ℕ, ◌<◌, ◌≤◌, ◌+◌, ◌^◌, ◌++◌, ◌∷◌, [], List, Option, Some, None, length, All, IfOk, IfSome, IsTrue, false, not, ◌↔◌, replicate, ◌*◌, slice_index_or, slice_get, slice_set};
 
-use crate::change::{answered, at_first, changed, has_flag, is_marked, is_quiet};
+use crate::change::{answered, changed, has_flag, is_marked, is_quiet};
 use crate::entry::{HUB, SERVER};
 use crate::event::{Answer, Event};
 use crate::layout::Layout;
 use crate::pass_row::{PassRow, nothing};
 use crate::queues::{Queues, empty_queues};
-use crate::state::{Mark, UrbState};
+use crate::state::{Mark, UrbState, at_first};
 use std::alloc::{AllocError, Global};
 use usb_types::{Flag, Memory, UrbId, Why};
 

@@ -1,3 +1,6 @@
+ghost use Rattle.std.specs.Prelude.{◌≡◌};
+ghost use Rattle.usb_machine.specs.State.{opening, no_flags as none};
+
 use usb_types::{Code, Why};
 
 /// What is settled of a queued URB's status.
@@ -26,4 +29,28 @@ pub struct UrbState {
     pub flags: Flags,
     pub handlers: u64,
     pub rest: Option<u64>,
+}
+
+pub(crate) fn no_flags() -> Flags
+    ensures { result ≡ none }
+{
+    Flags {
+        gone: false,
+        off: false,
+        down: false,
+    }
+}
+
+/// The state of each URB at first.
+pub(crate) fn at_first() -> UrbState
+    ensures { result ≡ opening }
+{
+    UrbState {
+        queued: false,
+        mark: Mark::Clear,
+        rejects: 0,
+        flags: no_flags(),
+        handlers: 0,
+        rest: None,
+    }
 }
