@@ -67,6 +67,7 @@ IsWhole shape t replies = (before : List Reply) (r : Reply) (after : List Reply)
 abbrev pub IsOpen : Shape → Transfer → List Reply → Type 0
 IsOpen shape t replies = ending shape t [] replies ≡ None
 
+-- the moved bytes of the window, where the device was sent them
 abbrev pub acked_in : Direction → Transfer → List ℕ
 acked_in In now = []
 acked_in Out now = take now.actual (drop now.from now.buf)

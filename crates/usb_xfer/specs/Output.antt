@@ -10,6 +10,7 @@ use Rattle.usb_xfer.specs.declared.packet.Step.{Step}
 use Rattle.usb_xfer.specs.declared.packet.Step.TheVariants.{More, Waiting, Ended}
 use Rattle.usb_xfer.specs.Replies.{Reply}
 
+-- whether the device has taken a packet
 abbrev pub is_ack : Reply → Bool
 is_ack Ack = true
 is_ack _ = false
