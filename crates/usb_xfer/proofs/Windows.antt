@@ -1,13 +1,17 @@
 -- However a transfer is moved, its window lies in its buffer, and the moved bytes in the window.
-use Rattle.std.proofs.Common.{ℕ, ◌≡◌, ◌+◌, ◌-◌, ◌≤◌, Bool, true, false, cond, List, [], ◌∷◌, ◌++◌, length, take, drop, refl, ap, ◌∙◌, arith, length-append, append-nil}
+use Rattle.std.proofs.Common.{ℕ, ◌≡◌, ◌+◌, ◌-◌, ◌*◌, ◌≤◌, min, Bool, true, false, cond, List, [], ◌∷◌, ◌++◌, length, take, drop, refl, ap, ◌∙◌, arith, length-append, append-nil}
 use Rattle.std.specs.Prelude.{nat_le, ◌&&◌}
 use Rattle.std.specs.List.{flat_map}
 use Rattle.std.proofs.lemmas.Grind.{common_steps, flat_map-append}
+use Rattle.usb_machine.specs.declared.layout.Shape.{Shape}
 use Rattle.usb_machine.specs.declared.transfer.Transfer.{Transfer}
 use Rattle.usb_machine.specs.Shapes.{HasWindow}
-use Rattle.usb_xfer.specs.declared.device.Reply.{Reply}
-use Rattle.usb_xfer.specs.declared.device.Reply.TheVariants.{Nak, Stall, Error, Packet}
-use Rattle.usb_xfer.specs.Moved.{bytes_of, lengths, good_bytes, moved}
+use Rattle.usb_xfer.specs.declared.script.What.TheVariants.{Ack, Nak, Stall, Error, Packet}
+use Rattle.usb_xfer.specs.Direction.{Direction, In, Out, direction_of}
+use Rattle.usb_xfer.specs.Replies.{Reply}
+use Rattle.usb_xfer.specs.Input.{bytes_of, lengths, good_bytes, input_moves}
+use Rattle.usb_xfer.specs.Output.{acks, output_moves}
+use Rattle.usb_xfer.specs.Moved.{moved, moved_by, reply_moves, moves_by}
 
 lengths-push : (before : List Reply) (r : Reply) → lengths (before ++ r ∷ []) ≡ lengths before + length (bytes_of r)
 lengths-push before r = ap length (flat_map-append bytes_of before (r ∷ []) ∙ ap (λ l. flat_map bytes_of before ++ l) (append-nil (bytes_of r))) ∙ length-append (flat_map bytes_of before) (bytes_of r)
@@ -19,6 +23,7 @@ good_fits max len before (r ∷ replies) = go r (good_fits max len (before ++ r 
   where
     go : (r : Reply) → length (good_bytes max len (before ++ r ∷ []) replies) ≤ len - lengths (before ++ r ∷ []) → lengths (before ++ r ∷ []) ≡ lengths before + length (bytes_of r)
         → length (good_bytes max len before (r ∷ replies)) ≤ len - lengths before
+    go Ack rest more = omega arith
     go Nak rest more = omega arith
     go Stall rest more = omega arith
     go Error rest more = omega arith
@@ -30,14 +35,51 @@ good_fits max len before (r ∷ replies) = go r (good_fits max len (before ++ r 
         by_test true e = let fits : length p ≤ len - lengths before = grind (arith, common_steps) in
             let joined = length-append p (good_bytes max len (before ++ Packet p ∷ []) replies) in omega arith
 
-pub moved_window : (max : ℕ) (t : Transfer) (replies : List Reply) → HasWindow t → HasWindow (moved max t replies)
-moved_window max t replies w =
+same_length : (buf : List ℕ) (from : ℕ) (bytes : List ℕ) → from + length bytes ≤ length buf → length (take from buf ++ bytes ++ drop (from + length bytes) buf) ≡ length buf
+same_length buf from bytes l = grind (arith, common_steps)
+
+moved_window_by : (d : Direction) (max : ℕ) (t : Transfer) (replies : List Reply) → HasWindow t → HasWindow (moved_by d max t replies)
+moved_window_by In max t replies w =
     let a = w.window in let b = w.buffer in
     let fits = good_fits max t.len [] replies in
     let none : lengths [] ≡ 0 = refl in
     let within : length (good_bytes max t.len [] replies) ≤ t.len = omega arith in
     let long = same_length t.buf t.from (good_bytes max t.len [] replies) (omega arith) in
     record { window = omega arith; buffer = omega arith; within = within }
+moved_window_by Out max t replies w = record { window = w.window; buffer = w.buffer; within = less t.len (max * acks replies) }
   where
-    same_length : (buf : List ℕ) (from : ℕ) (bytes : List ℕ) → from + length bytes ≤ length buf → length (take from buf ++ bytes ++ drop (from + length bytes) buf) ≡ length buf
-    same_length buf from bytes l = grind (arith, common_steps)
+    less : (len n : ℕ) → min len n ≤ len
+    less len n = omega arith
+
+pub moved_window : (shape : Shape) (t : Transfer) (replies : List Reply) → HasWindow t → HasWindow (moved shape t replies)
+moved_window shape t replies w = moved_window_by (direction_of shape) shape.max t replies w
+
+input_kept : (max : ℕ) (r : Reply) (t : Transfer) → HasWindow t → HasWindow (input_moves max r t)
+input_kept max Ack t w = w
+input_kept max Nak t w = w
+input_kept max Stall t w = w
+input_kept max Error t w = w
+input_kept max (Packet p) t w = go (nat_le (length p) max && nat_le (length p) (t.len - t.actual)) refl
+  where
+    go : (b : Bool) → (nat_le (length p) max && nat_le (length p) (t.len - t.actual)) ≡ b
+        → HasWindow (cond b (record t { buf = take (t.from + t.actual) t.buf ++ p ++ drop (t.from + t.actual + length p) t.buf; actual = t.actual + length p }) t)
+    go false e = w
+    go true e = let a = w.window in let b = w.buffer in let d = w.within in
+        let fits : t.actual + length p ≤ t.len = grind (arith, common_steps) in
+        let long : length (take (t.from + t.actual) t.buf ++ p ++ drop (t.from + t.actual + length p) t.buf) ≡ length t.buf = grind (arith, common_steps) in
+        record { window = omega arith; buffer = omega arith; within = fits }
+
+output_kept : (max : ℕ) (r : Reply) (t : Transfer) → HasWindow t → HasWindow (output_moves max r t)
+output_kept max Ack t w = record { window = w.window; buffer = w.buffer; within = let a = w.within in omega arith }
+output_kept max Nak t w = w
+output_kept max Stall t w = w
+output_kept max Error t w = w
+output_kept max (Packet p) t w = w
+
+kept_by : (d : Direction) (max : ℕ) (r : Reply) (t : Transfer) → HasWindow t → HasWindow (moves_by d max r t)
+kept_by In max r t w = input_kept max r t w
+kept_by Out max r t w = output_kept max r t w
+
+-- one reply keeps the window
+pub window_kept : (shape : Shape) (r : Reply) (t : Transfer) → HasWindow t → HasWindow (reply_moves shape r t)
+window_kept shape r t w = kept_by (direction_of shape) shape.max r t w

@@ -1,68 +1,45 @@
--- How a list of replies moves a transfer of an IN endpoint: its bytes, and whether it goes on, waits or has ended.
--- A transfer ends where the asked length is reached, at a packet shorter than the packet size (USB 2.0 §5.8.3), or at a
--- fault. A Nak has no bytes and ends nothing.
-use Rattle.std.specs.Prelude.{ℕ, ◌≡◌, ◌+◌, ◌-◌, Bool, true, false, not, ◌&&◌, ◌||◌, ◌==◌, nat_le, nat_lt, if◌then◌else◌, List, [], ◌∷◌, ◌++◌, length, take, drop, Option, Some, None}
-use Rattle.std.specs.List.{flat_map}
-use Rattle.usb_types.specs.declared.errno.Errno.TheVariants.{EPIPE, EPROTO, EOVERFLOW, EREMOTEIO}
+-- How a list of replies moves a transfer: its bytes, and whether it goes on, waits or has ended.
+use Rattle.std.specs.Prelude.{ℕ, ◌≡◌, Bool, true, false, if◌then◌else◌, List, [], ◌∷◌, ◌++◌, take, drop, Option, Some, None}
 use Rattle.usb_types.specs.declared.errno.Code.{Code}
-use Rattle.usb_types.specs.declared.errno.Code.TheVariants.{Zero, Fault}
+use Rattle.usb_machine.specs.declared.layout.Shape.{Shape}
 use Rattle.usb_machine.specs.declared.transfer.Transfer.{Transfer}
 use Rattle.usb_machine.specs.Shapes.{HasWindow}
-use Rattle.usb_xfer.specs.declared.device.Reply.{Reply}
-use Rattle.usb_xfer.specs.declared.device.Reply.TheVariants.{Nak, Stall, Error, Packet}
+use Rattle.usb_xfer.specs.declared.script.What.TheVariants.{Nak}
 use Rattle.usb_xfer.specs.declared.packet.Step.{Step}
 use Rattle.usb_xfer.specs.declared.packet.Step.TheVariants.{More, Waiting, Ended}
+use Rattle.usb_xfer.specs.Direction.{Direction, In, Out, direction_of}
+use Rattle.usb_xfer.specs.Replies.{Reply, Question, Fetch, Send, acked_by}
+use Rattle.usb_xfer.specs.Input.{input_stops, input_code, input_moved, input_moves, input_step}
+use Rattle.usb_xfer.specs.Output.{output_stops, output_code, output_moved, next_packet, output_moves, output_step}
 
--- the bytes that a reply brings
-abbrev pub bytes_of : Reply → List ℕ
-bytes_of Nak = []
-bytes_of Stall = []
-bytes_of Error = []
-bytes_of (Packet bytes) = bytes
+abbrev pub stops_by : Direction → ℕ → Transfer → List Reply → Reply → Bool
+stops_by In max t before r = input_stops max t.len before r
+stops_by Out max t before r = output_stops max t.len before r
 
--- how many bytes the packets have together
-abbrev pub lengths : List Reply → ℕ
-lengths replies = length (flat_map bytes_of replies)
+-- whether a transfer ends with this reply, after the replies before it
+abbrev pub stops : Shape → Transfer → List Reply → Reply → Bool
+stops shape t before r = stops_by (direction_of shape) shape.max t before r
 
--- whether the reply is a packet longer neither than max nor than len less the lengths before it
-abbrev pub is_good : ℕ → ℕ → List Reply → Reply → Bool
-is_good max len before (Packet bytes) = nat_le (length bytes) max && nat_le (length bytes) (len - lengths before)
-is_good max len before _ = false
-
--- whether a transfer ends with this reply: a Stall, an Error, a packet that is not good, a short one, or one that brings the bytes to len
-abbrev pub stops : ℕ → ℕ → List Reply → Reply → Bool
-stops max len before Nak = false
-stops max len before Stall = true
-stops max len before Error = true
-stops max len before (Packet bytes) = not (is_good max len before (Packet bytes)) || nat_lt (length bytes) max || (lengths before + length bytes == len)
+abbrev pub code_by : Direction → ℕ → Transfer → List Reply → Reply → Code
+code_by In max t before r = input_code max t.len t.short_not_ok before r
+code_by Out max t before r = output_code r
 
 -- the code that a reply ends a transfer with
-abbrev pub end_code : ℕ → ℕ → Bool → List Reply → Reply → Code
-end_code max len short before Nak = Zero
-end_code max len short before Stall = Fault EPIPE
-end_code max len short before Error = Fault EPROTO
-end_code max len short before (Packet bytes) =
-    if is_good max len before (Packet bytes)
-    then (if short && nat_lt (lengths before + length bytes) len then Fault EREMOTEIO else Zero)
-    else Fault EOVERFLOW
-
--- the good packets of the replies that follow `before`, joined
-abbrev pub good_bytes : ℕ → ℕ → List Reply → List Reply → List ℕ
-good_bytes max len before [] = []
-good_bytes max len before (r ∷ replies) = (if is_good max len before r then bytes_of r else []) ++ good_bytes max len (before ++ r ∷ []) replies
+abbrev pub end_code : Shape → Transfer → List Reply → Reply → Code
+end_code shape t before r = code_by (direction_of shape) shape.max t before r
 
 -- the code of the first reply that ends the transfer
-abbrev pub ending : ℕ → ℕ → Bool → List Reply → List Reply → Option Code
-ending max len short before [] = None
-ending max len short before (r ∷ replies) = if stops max len before r then Some (end_code max len short before r) else ending max len short (before ++ r ∷ []) replies
+abbrev pub ending : Shape → Transfer → List Reply → List Reply → Option Code
+ending shape t before [] = None
+ending shape t before (r ∷ replies) = if stops shape t before r then Some (end_code shape t before r) else ending shape t (before ++ r ∷ []) replies
 
--- the transfer with its window beginning with these bytes
-abbrev pub with_bytes : Transfer → List ℕ → Transfer
-with_bytes t bytes = record t { buf = take t.from t.buf ++ bytes ++ drop (t.from + length bytes) t.buf; actual = length bytes }
+abbrev pub moved_by : Direction → ℕ → Transfer → List Reply → Transfer
+moved_by In max t replies = input_moved max t replies
+moved_by Out max t replies = output_moved max t replies
 
 -- the transfer as the replies moved it
-abbrev pub moved : ℕ → Transfer → List Reply → Transfer
-moved max t replies = with_bytes t (good_bytes max t.len [] replies)
+abbrev pub moved : Shape → Transfer → List Reply → Transfer
+moved shape t replies = moved_by (direction_of shape) shape.max t replies
 
 abbrev pub is_nak : Reply → Bool
 is_nak Nak = true
@@ -79,53 +56,59 @@ state_by None true = Waiting
 state_by None false = More
 
 -- whether the transfer has ended, and else whether the last reply was a Nak
-abbrev pub moved_state : ℕ → Transfer → List Reply → Step
-moved_state max t replies = state_by (ending max t.len t.short_not_ok [] replies) (ends_with_nak replies)
+abbrev pub moved_state : Shape → Transfer → List Reply → Step
+moved_state shape t replies = state_by (ending shape t [] replies) (ends_with_nak replies)
 
 -- nothing follows the reply that ends the transfer
-abbrev pub IsWhole : ℕ → Transfer → List Reply → Type 0
-IsWhole max t replies = (before : List Reply) (r : Reply) (after : List Reply) → replies ≡ before ++ r ∷ after → stops max t.len before r ≡ true → after ≡ []
+abbrev pub IsWhole : Shape → Transfer → List Reply → Type 0
+IsWhole shape t replies = (before : List Reply) (r : Reply) (after : List Reply) → replies ≡ before ++ r ∷ after → stops shape t before r ≡ true → after ≡ []
 
 -- no reply has ended the transfer
-abbrev pub IsOpen : ℕ → Transfer → List Reply → Type 0
-IsOpen max t replies = ending max t.len t.short_not_ok [] replies ≡ None
+abbrev pub IsOpen : Shape → Transfer → List Reply → Type 0
+IsOpen shape t replies = ending shape t [] replies ≡ None
+
+-- the moved bytes of the window, where the device was sent them
+abbrev pub acked_in : Direction → Transfer → List ℕ
+acked_in In now = []
+acked_in Out now = take now.actual (drop now.from now.buf)
+
+-- the bytes of the window that the device has acknowledged
+abbrev pub acked_bytes : Shape → Transfer → List Reply → List ℕ
+acked_bytes shape t replies = acked_in (direction_of shape) (moved shape t replies)
+
+abbrev pub question_by : Direction → ℕ → Transfer → Question
+question_by In max t = Fetch
+question_by Out max t = Send (next_packet max t)
+
+-- what the host asks the endpoint next
+abbrev pub question_of : Shape → Transfer → Question
+question_of shape t = question_by (direction_of shape) shape.max t
+
+abbrev pub moves_by : Direction → ℕ → Reply → Transfer → Transfer
+moves_by In max r t = input_moves max r t
+moves_by Out max r t = output_moves max r t
 
 -- how one reply moves a transfer, by the table
-abbrev pub reply_moves : ℕ → Reply → Transfer → Transfer
-reply_moves max (Packet bytes) t =
-    if nat_le (length bytes) max && nat_le (length bytes) (t.len - t.actual)
-    then record t { buf = take (t.from + t.actual) t.buf ++ bytes ++ drop (t.from + t.actual + length bytes) t.buf; actual = t.actual + length bytes }
-    else t
-reply_moves max _ t = t
+abbrev pub reply_moves : Shape → Reply → Transfer → Transfer
+reply_moves shape r t = moves_by (direction_of shape) shape.max r t
 
--- the transfer when the device was asked and nothing is counted yet: a good packet stands behind the moved bytes
-abbrev pub filled : ℕ → Reply → Transfer → Transfer
-filled max (Packet bytes) t =
-    if nat_le (length bytes) max && nat_le (length bytes) (t.len - t.actual)
-    then record t { buf = take (t.from + t.actual) t.buf ++ bytes ++ drop (t.from + t.actual + length bytes) t.buf }
-    else t
-filled max _ t = t
+abbrev pub step_by : Direction → ℕ → Reply → Transfer → Step
+step_by In max r t = input_step max r t
+step_by Out max r t = output_step max r t
 
 -- what one reply answers, by the table
-abbrev pub reply_step : ℕ → Reply → Transfer → Step
-reply_step max Nak t = Waiting
-reply_step max Stall t = Ended (Fault EPIPE)
-reply_step max Error t = Ended (Fault EPROTO)
-reply_step max (Packet bytes) t =
-    if nat_le (length bytes) max && nat_le (length bytes) (t.len - t.actual)
-    then (if nat_lt (length bytes) max || (t.actual + length bytes == t.len)
-    then Ended (if t.short_not_ok && nat_lt (t.actual + length bytes) t.len then Fault EREMOTEIO else Zero)
-    else More)
-    else Ended (Fault EOVERFLOW)
+abbrev pub reply_step : Shape → Reply → Transfer → Step
+reply_step shape r t = step_by (direction_of shape) shape.max r t
 
 -- what one more reply leaves and answers is what all the replies together do
-pub record IsLastStep (max : ℕ) (old new : Transfer) (r : Reply) (step : Step) (start : Transfer) (replies : List Reply) : Type 0 where
-  pub transfer : new ≡ moved max start (replies ++ r ∷ [])
-  pub state : step ≡ moved_state max start (replies ++ r ∷ [])
-  pub whole : IsWhole max start (replies ++ r ∷ [])
+pub record IsLastStep (shape : Shape) (old new : Transfer) (r : Reply) (step : Step) (start : Transfer) (replies : List Reply) : Type 0 where
+  pub transfer : new ≡ moved shape start (replies ++ r ∷ [])
+  pub state : step ≡ moved_state shape start (replies ++ r ∷ [])
+  pub whole : IsWhole shape start (replies ++ r ∷ [])
+  pub acked : acked_bytes shape start (replies ++ r ∷ []) ≡ acked_bytes shape start replies ++ acked_by (question_of shape old) r
 
 -- the table's row for the reply, which is the last step of what all the replies do
-pub record Advances (max : ℕ) (old new : Transfer) (r : Reply) (step : Step) : Type 0 where
-  pub transfer : new ≡ reply_moves max r old
-  pub answer : step ≡ reply_step max r old
-  pub last : (start : Transfer) (replies : List Reply) → HasWindow start → IsOpen max start replies → old ≡ moved max start replies → IsLastStep max old new r step start replies
+pub record Advances (shape : Shape) (old new : Transfer) (r : Reply) (step : Step) : Type 0 where
+  pub transfer : new ≡ reply_moves shape r old
+  pub answer : step ≡ reply_step shape r old
+  pub last : (start : Transfer) (replies : List Reply) → HasWindow start → IsOpen shape start replies → old ≡ moved shape start replies → IsLastStep shape old new r step start replies

@@ -1,38 +1,47 @@
 ghost use Rattle.std.specs.Prelude.{ℕ, ◌≡◌, ◌+◌, ◌≤◌, ◌<◌, ◌++◌, length, List, take, drop, slice_range};
-ghost use Rattle.usb_machine.specs.declared.transfer.Transfer.{Transfer};
-ghost use Rattle.usb_xfer.specs.declared.device.Reply.{Reply};
-ghost use Rattle.usb_xfer.specs.Replies.{Answers, heard_of, room_after};
-ghost use Rattle.usb_xfer.specs.Moved.{moved, IsOpen, IsLastStep, filled, reply_moves, reply_step, Advances};
 ghost use Rattle.usb_machine.specs.Shapes.{HasWindow};
+ghost use Rattle.usb_xfer.specs.Replies.{Reply, Question, Fetch, Send, in_heard, out_heard};
+ghost use Rattle.usb_xfer.specs.Input.{filled, input_moves, input_step};
+ghost use Rattle.usb_xfer.specs.Output.{size_of_next, next_packet, output_moves, output_step};
+ghost use Rattle.usb_xfer.specs.Moved.{question_of, Advances};
 
-use crate::device::{Device, InReply};
+use crate::device::{Device, InReply, OutReply};
+use crate::direction::is_in;
 use usb_machine::{Shape, Transfer};
 use usb_types::{Code, Errno};
 
 /// How far a transfer is after one packet: it goes on, it waits for the device, or it has ended with a code.
-#[derive(Clone, Copy, Debug, PartialEq, Eq, Drop)]
+#[derive(Clone, Copy, Debug, PartialEq, Eq)]
 pub enum Step {
     More,
     Waiting,
     Ended(Code),
 }
 
+// The most bytes that the next packet may have.
+fn next_size(t: &Transfer, max: u16) -> u32
+    requires { t.now.actual ≤ t.now.len }
+    ensures { result ≡ size_of_next max t.now }
+{
+    (max as u32).min(t.len - t.actual)
+}
+
 // Asks the device for one packet, at the place behind the moved bytes.
-fn ask<D: Device>(t: &mut Transfer, shape: &Shape, device: &mut D) -> InReply
+fn fetch<D: Device>(t: &mut Transfer, shape: &Shape, device: &mut D) -> InReply
     requires { HasWindow t.old }
-    ensures { (r : Reply) × (D.replies device.old shape.now.address r device.new) × (result ≡ heard_of r) × (t.new ≡ filled shape.now.max r t.old) }
+    ensures { (r : Reply) × (D.replies device.old shape.now.address Fetch r device.new) × (result ≡ in_heard r) × (t.new ≡ filled shape.now.max r t.old) }
 {
     let from = (t.from + t.actual) as usize;
-    let room = (shape.max as usize).min((t.len - t.actual) as usize);
+    let room = next_size(t, shape.max) as usize;
     device.input(shape.address, &mut t.buf.bytes_mut()[from..from + room])
 }
 
-// Moves one packet, by the table.
-fn move_packet<D: Device>(t: &mut Transfer, shape: &Shape, device: &mut D) -> Step
+// Moves one packet to the host, by the table.
+fn move_in<D: Device>(t: &mut Transfer, shape: &Shape, device: &mut D) -> Step
     requires { HasWindow t.old }
-    ensures { (r : Reply) × (D.replies device.old shape.now.address r device.new) × (t.new ≡ reply_moves shape.now.max r t.old) × (result ≡ reply_step shape.now.max r t.old) }
+    ensures { (r : Reply) × (D.replies device.old shape.now.address Fetch r device.new) × (t.new ≡ input_moves shape.now.max r t.old) × (result ≡ input_step shape.now.max r t.old) }
 {
-    match ask(t, shape, device) {
+    match fetch(t, shape, device) {
         InReply::Nak => Step::Waiting,
         InReply::Stall => Step::Ended(Code::Fault(Errno::EPIPE)),
         InReply::Error => Step::Ended(Code::Fault(Errno::EPROTO)),
@@ -54,10 +63,45 @@ fn move_packet<D: Device>(t: &mut Transfer, shape: &Shape, device: &mut D) -> St
     }
 }
 
+// Sends the device the next bytes of the window.
+fn send<D: Device>(t: &Transfer, shape: &Shape, device: &mut D) -> OutReply
+    requires { HasWindow t.now }
+    ensures { (r : Reply) × (D.replies device.old shape.now.address (Send (next_packet shape.now.max t.now)) r device.new) × (result ≡ out_heard r) }
+{
+    let from = (t.from + t.actual) as usize;
+    let size = next_size(t, shape.max) as usize;
+    device.output(shape.address, &t.buf.bytes()[from..from + size])
+}
+
+// Moves one packet to the device, by the table.
+fn move_out<D: Device>(t: &mut Transfer, shape: &Shape, device: &mut D) -> Step
+    requires { HasWindow t.old }
+    ensures { (r : Reply) × (D.replies device.old shape.now.address (Send (next_packet shape.now.max t.old)) r device.new) × (t.new ≡ output_moves shape.now.max r t.old) × (result ≡ output_step shape.now.max r t.old) }
+{
+    let size = next_size(t, shape.max);
+    match send(t, shape, device) {
+        OutReply::Nak => Step::Waiting,
+        OutReply::Stall => Step::Ended(Code::Fault(Errno::EPIPE)),
+        OutReply::Error => Step::Ended(Code::Fault(Errno::EPROTO)),
+        OutReply::Ack => {
+            t.actual += size;
+            if t.actual == t.len {
+                Step::Ended(Code::Zero)
+            } else {
+                Step::More
+            }
+        }
+    }
+}
+
 /// Moves one packet. What it leaves and answers is what all the transfer's replies together do.
 pub fn advance<D: Device>(t: &mut Transfer, shape: &Shape, device: &mut D) -> Step
     requires { HasWindow t.old }
-    ensures { (r : Reply) × (D.replies device.old shape.now.address r device.new) × Advances shape.now.max t.old t.new r result }
+    ensures { (r : Reply) × (D.replies device.old shape.now.address (question_of shape.now t.old) r device.new) × Advances shape.now t.old t.new r result }
 {
-    move_packet(t, shape, device)
+    if is_in(shape.address) {
+        move_in(t, shape, device)
+    } else {
+        move_out(t, shape, device)
+    }
 }

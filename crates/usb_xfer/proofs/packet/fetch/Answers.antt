@@ -4,12 +4,11 @@ use Rattle.std.proofs.lemmas.List.{take-append-drop, drop-append-le, drop-drop, 
 use Rattle.std.proofs.Math.Seq.{take-append_seam}
 use borrow.Rule.Slice.PartMut.{put_mid, put_same}
 use Rattle.usb_machine.specs.declared.transfer.Transfer.{Transfer}
-use Rattle.usb_xfer.specs.declared.device.Reply.{Reply}
-use Rattle.usb_xfer.specs.declared.device.Reply.TheVariants.{Nak, Stall, Error, Packet}
-use Rattle.usb_xfer.specs.Replies.{room_after}
-use Rattle.usb_xfer.specs.Moved.{filled}
+use Rattle.usb_xfer.specs.Replies.{Reply, room_after}
+use Rattle.usb_xfer.specs.declared.script.What.TheVariants.{Ack, Nak, Stall, Error, Packet}
+use Rattle.usb_xfer.specs.Input.{filled}
 use Rattle.usb_machine.specs.Shapes.{HasWindow}
-use Rattle.usb_xfer.proofs.packet.ask.Goals as goal
+use Rattle.usb_xfer.proofs.packet.fetch.Goals as goal
 
 over_whole : (x b : List ℕ) → length x ≡ length b → take (length b) (x ++ drop (length x) b) ≡ x
 over_whole x b e = subst (λ (n : ℕ). take n (x ++ drop (length x) b) ≡ x) e (take-append_seam x (drop (length x) b))
@@ -52,6 +51,7 @@ module _ (max : ℕ) (t : Transfer) (k : ℕ) (f : k ≡ min max (t.len - t.actu
       ap with (put at k t.buf p g l) ∙ (λ i. record t { buf = over_whole x t.buf len i })
 
   asked : (r : Reply) (new : List ℕ) → new ≡ room_after r mid → with (put_mid at k t.buf new) ≡ filled max r t
+  asked Ack new q = same new q
   asked Nak new q = same new q
   asked Stall new q = same new q
   asked Error new q = same new q
@@ -69,8 +69,8 @@ module _ (max : ℕ) (t : Transfer) (k : ℕ) (f : k ≡ min max (t.len - t.actu
 pub returns : goal.returns
 returns g c =
     let e = c.input.ensures in let t = c.args.t.now in
-    let f : t.from + t.actual + c.min-room.result - (t.from + t.actual) ≡ min c.args.shape.now.max (t.len - t.actual) = let m = c.min-room.ensures in omega arith in
+    let f : t.from + t.actual + c.next_size-room.result - (t.from + t.actual) ≡ min c.args.shape.now.max (t.len - t.actual) = let m = c.next_size-room.ensures in omega arith in
     let b = c.bytes_mut.ensures.value in
-    let k = t.from + t.actual + c.min-room.result - (t.from + t.actual) in
+    let k = t.from + t.actual + c.next_size-room.result - (t.from + t.actual) in
     let room : c.input.new.room ≡ room_after e.0 (take k (drop (t.from + t.actual) t.buf)) = e.2.room ∙ ap (λ z. room_after e.0 (take k (drop (t.from + t.actual) z))) b in
     (e.0, e.1, e.2.heard, rw b (asked c.args.shape.now.max t k f c.requires e.0 c.input.new.room room))
