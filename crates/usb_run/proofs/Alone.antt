@@ -15,7 +15,7 @@ use Rattle.usb_run.specs.declared.scene.Call.{Call}
 use Rattle.usb_run.specs.declared.scene.CallKind.TheVariants as call
 use Rattle.usb_run.specs.declared.made.CallMade.{CallMade}
 use Rattle.usb_run.specs.declared.made.CallAnswer.TheVariants as told
-use Rattle.usb_run.specs.Prepared.{max_of}
+use Rattle.usb_run.specs.Prepared.{shape_of}
 use Rattle.usb_run.specs.Line.{Progress, taken, had_after, GoesTo, IsServed, giveback_of, given_back, waits, GivesBack, none, one, IsIdle, nothing, waiting, with_call, with_serve, IsLine, start, submit, serve, IsLineRun}
 use Rattle.usb_run.proofs.Lines.{gives_made, idle_made}
 use Rattle.usb_run.proofs.Calls.{placed}
@@ -23,7 +23,7 @@ use Rattle.usb_run.proofs.Calls.{placed}
 -- of two numbers of replies after which a transfer does not go on, neither is the smaller
 same_goes : (s : Scene) (u : ℕ) (t : Transfer) (f : Progress) (n k : ℕ) (c d : Step) → c ≢ More → d ≢ More → GoesTo s u t f n c → GoesTo s u t f k d → (n ≡ k) × (c ≡ d)
 same_goes s u t f n k c d p q g h = dite (ℕ_discrete n k)
-    (λ e. (e, sym g.state ∙ (ap (λ (i : ℕ). moved_state (max_of s u) t (had_after s f i)) e ∙ h.state)))
+    (λ e. (e, sym g.state ∙ (ap (λ (i : ℕ). moved_state (shape_of s u) t (had_after s f i)) e ∙ h.state)))
     (λ ne. dite (dec_lt n k) (λ l. absurd (p (sym g.state ∙ h.before n g.some l))) (λ l. let m : k < n = omega arith in absurd (q (sym h.state ∙ g.before k h.some m))))
 
 same_served : (s : Scene) (f : Progress) (u v : ℕ) (t r : Transfer) → IsServed s f u t → IsServed s f v r → (u ≡ v) × (t ≡ r)

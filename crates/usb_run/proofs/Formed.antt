@@ -9,10 +9,10 @@ use Rattle.std.proofs.lemmas.Option.{option_and_then_some}
 use Rattle.std.proofs.lemmas.List.Elements.{All-nil, All-cons}
 use Rattle.usb_text.specs.Kinds.{address_of, number_of, packet_of}
 use Rattle.usb_text.proofs.Known.{some_if, some_unless, address_of-range, short_packet}
-use Rattle.usb_xfer.specs.declared.device.Reply.{Reply}
-use Rattle.usb_xfer.specs.declared.device.Reply.TheVariants.{Nak, Stall, Error, Packet}
+use Rattle.usb_xfer.specs.Replies.{Reply}
+use Rattle.usb_xfer.specs.declared.script.What.TheVariants.{Nak, Stall, Error, Packet}
 use Rattle.usb_run.specs.declared.scene.Scene.{Scene}
-use Rattle.usb_run.specs.declared.scene.Item.{Item}
+use Rattle.usb_xfer.specs.declared.script.Item.{Item}
 use Rattle.usb_run.specs.declared.statement.Statement.{Statement}
 use Rattle.usb_run.specs.declared.statement.Statement.TheVariants as say
 use Rattle.usb_run.specs.declared.statement.Keyword.{Keyword}
@@ -62,7 +62,7 @@ short_reply text r h =
 
 good_item : (text : List ℕ) (item : Item) → item_of text ≡ Some item → IsItem item
 good_item text item h =
-    let p = map_some (λ (r : Reply). let it : Item = record { times = 1; reply = r } in it) (reply_of text) item h in
+    let p = map_some (λ (r : Reply). let it : Item = record { times = 1; what = r } in it) (reply_of text) item h in
     subst IsItem p.2 (record { some = lit< tt; most = lit≤ tt; packet = short_reply text p.0 p.1 })
 
 pub good_items : (texts : List (List ℕ)) (items : List Item) → items_of texts ≡ Some items → All IsItem items

@@ -12,7 +12,7 @@ use Rattle.usb_machine.specs.History.{or_zero, home_of, HasHome}
 use Rattle.usb_run.specs.declared.scene.Scene.{Scene}
 use Rattle.usb_run.specs.declared.scene.SceneDevice.{SceneDevice}
 use Rattle.usb_run.specs.declared.scene.SceneUrb.{SceneUrb}
-use Rattle.usb_run.specs.Prepared.{control_end, shapes_from, shapes_of, is_at, home_at, machine_of, max_in, max_of, len_in, fresh}
+use Rattle.usb_run.specs.Prepared.{control_end, shapes_from, shapes_of, is_at, home_at, machine_of, or_control, shape_of, len_in, fresh}
 use Rattle.usb_run.specs.WellFormed.{IsBulkIn, IsDevice, IsUrb, IsWellFormed}
 use Rattle.usb_run.specs.Line.{served_end}
 
@@ -68,11 +68,11 @@ module _ (s : Scene) (good : IsWellFormed s) (u : ℕ) (near : u < length s.urbs
   pub served_shape : ServedShape (shapes_of s)
   served_shape = device_end s.devices good.one_device good.devices (all_behind s s.urbs good.urbs (omega arith))
 
-  pub size_served : max_of s u ≡ served_shape.shape.max
-  size_served = ap (λ (e : ℕ). max_in (slice_get (shapes_of s) e)) home_served ∙ ap max_in served_shape.stands
+  pub is_served : shape_of s u ≡ served_shape.shape
+  is_served = ap (λ (e : ℕ). or_control (slice_get (shapes_of s) e)) home_served ∙ ap or_control served_shape.stands
 
-  pub has_size : 0 < max_of s u
-  has_size = subst (λ (n : ℕ). 0 < n) (sym size_served) served_shape.bulk.some
+  pub has_size : 0 < (shape_of s u).max
+  has_size = subst (λ (shape : Shape). 0 < shape.max) (sym is_served) served_shape.bulk.some
 
   pub home_takes : (line : ℕ) → Accepts (slice_get (shapes_of s) (home_of (machine_of s) u)) (fresh s line u)
   home_takes line = subst (λ (e : ℕ). Accepts (slice_get (shapes_of s) e) (fresh s line u)) (sym home_served)

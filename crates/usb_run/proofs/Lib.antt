@@ -1,4 +1,5 @@
 pub mod Homes
+pub mod Moves
 pub mod MayFollow
 pub mod Takes
 pub mod Rounds

@@ -16,7 +16,7 @@ use Rattle.usb_machine.specs.History.{home_of, state_of, line_of}
 use Rattle.usb_machine.specs.Legal.{empty}
 use Rattle.usb_xfer.specs.declared.packet.Step.TheVariants.{Ended}
 use Rattle.usb_run.specs.declared.scene.Scene.{Scene}
-use Rattle.usb_run.specs.declared.scene.Item.{Item}
+use Rattle.usb_xfer.specs.declared.script.Item.{Item}
 use Rattle.usb_run.specs.declared.scene.CallKind.TheVariants as call
 use Rattle.usb_run.specs.declared.made.CallMade.{CallMade}
 use Rattle.usb_run.specs.declared.made.CallAnswer.TheVariants as told

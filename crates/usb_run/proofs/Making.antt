@@ -1,9 +1,11 @@
 -- One call more.
-use Rattle.std.proofs.Common.{ℕ, ◌≡◌, ◌+◌, ◌<◌, get_or, take, List, [], ◌∷◌, ◌++◌, length, map, sym, ap, ◌∙◌, subst, append_assoc}
+use Rattle.std.proofs.Common.{ℕ, ◌≡◌, ◌+◌, ◌<◌, get_or, take, List, [], ◌∷◌, ◌++◌, length, map, sym, ap, ◌∙◌, subst, arith, add-zero, append_assoc, append-nil}
+use Rattle.std.proofs.lemmas.Grind.{common_steps}
 use Rattle.std.proofs.lemmas.List.{map-append, take_more}
 use Rattle.usb_types.specs.declared.errno.Code.{Code}
 use Rattle.usb_machine.specs.declared.transfer.Transfer.{Transfer}
 use Rattle.usb_run.specs.declared.scene.Scene.{Scene}
+use Rattle.usb_run.specs.declared.scene.SceneThread.{SceneThread}
 use Rattle.usb_run.specs.declared.scene.Call.{Call}
 use Rattle.usb_run.specs.declared.scene.CallKind.TheVariants as call
 use Rattle.usb_run.specs.declared.made.CallMade.{CallMade}
@@ -12,6 +14,7 @@ use Rattle.usb_run.specs.declared.made.CallAnswer.TheVariants as told
 use Rattle.usb_run.specs.declared.place.Place.{Place}
 use Rattle.usb_run.specs.declared.place.Place.TheVariants as place
 use Rattle.usb_run.specs.declared.turn.LineRun.{LineRun}
+use Rattle.usb_run.specs.Prepared.{calls_from}
 use Rattle.usb_run.specs.Line.{Progress, with_call, with_serve, IsLine, submit, serve}
 use Rattle.usb_run.specs.Shows.{IsMoving, Lists, Lies, Shows, Served, Submitted, submit_made, MakesCall, IsAt, calls_in}
 use Rattle.usb_run.proofs.Lines.{gives_made, idle_made}
@@ -70,3 +73,21 @@ made_longer s f e thread calls i d answer run after made longer near at all done
           ∙ (append_assoc (calls_in f.made) (map pair (take i calls)) (pair (get_or calls i d) ∷ [])
           ∙ ap (λ l. calls_in f.made ++ l) (sym (map-append pair (take i calls) (get_or calls i d ∷ [])) ∙ ap (map pair) (sym (take_more calls i d near)))))),
     )
+
+calls_from-append : (n : ℕ) (xs ys : List SceneThread) → calls_from n (xs ++ ys) ≡ calls_from n xs ++ calls_from (n + length xs) ys
+calls_from-append n [] ys = ap (λ k. calls_from k ys) (sym (add-zero n))
+calls_from-append n (x ∷ xs) ys =
+    let far : n + 1 + length xs ≡ n + length (x ∷ xs) = omega arith in
+    ap (λ l. map (λ (c : Call). (n, c)) x.calls ++ l) (calls_from-append (n + 1) xs ys ∙ ap (λ k. calls_from (n + 1) xs ++ calls_from k ys) far)
+    ∙ sym (append_assoc (map (λ (c : Call). (n, c)) x.calls) (calls_from (n + 1) xs) (calls_from (n + length (x ∷ xs)) ys))
+
+-- the calls of one thread more
+pub calls_longer : (threads : List SceneThread) (i : ℕ) (d : SceneThread) → i < length threads
+    → calls_from 0 (take (i + 1) threads) ≡ calls_from 0 (take i threads) ++ map (λ (c : Call). (i, c)) (get_or threads i d).calls
+calls_longer threads i d near =
+    let x : SceneThread = get_or threads i d in
+    let number : 0 + length (take i threads) ≡ i = grind (arith, common_steps) in
+    ap (calls_from 0) (take_more threads i d near)
+    ∙ (calls_from-append 0 (take i threads) (x ∷ [])
+    ∙ (ap (λ k. calls_from 0 (take i threads) ++ calls_from k (x ∷ [])) number
+    ∙ ap (λ l. calls_from 0 (take i threads) ++ l) (append-nil (map (λ (c : Call). (i, c)) x.calls))))

@@ -17,11 +17,12 @@ use Rattle.usb_machine.specs.Legal.{IsFirst, times, Follows}
 use Rattle.usb_machine.proofs.Steps.{state_of-snoc, pending_of-snoc, owes_own}
 use Rattle.usb_xfer.proofs.Windows.{moved_window}
 use Rattle.usb_run.specs.declared.scene.Scene.{Scene}
-use Rattle.usb_run.specs.Prepared.{pass_of, machine_of, max_of, fresh}
+use Rattle.usb_run.specs.Prepared.{pass_of, machine_of, shape_of, fresh}
 use Rattle.usb_run.specs.Run.{Giveback, moved_in, entry}
 use Rattle.usb_run.specs.WellFormed.{IsWellFormed}
 use Rattle.usb_run.specs.Line.{served_end}
 use Rattle.usb_run.proofs.Homes.{has_home, home_takes, fresh_window}
+use Rattle.usb_run.proofs.Moves.{moved_number}
 use Rattle.usb_run.proofs.Passes.{is_pass}
 
 -- an URB first in the list stands in it
@@ -159,7 +160,7 @@ module _ (s : Scene) (h : List Entry) (r : Giveback) where
     given_runs = subst (λ (t : UrbState). 0 < t.handlers) (sym given_state) (omega arith)
 
     pub third_follows : Follows (machine_of s) given rest
-    third_follows = rest_follows s given r.urb (moved_in s r) r.sent.number refl (moved_window (max_of s r.urb) r.sent r.replies ready.window) given_runs
+    third_follows = rest_follows s given r.urb (moved_in s r) r.sent.number (moved_number (shape_of s r.urb) r.sent r.replies) (moved_window (shape_of s r.urb) r.sent r.replies ready.window) given_runs
 
     pub fourth_follows : Follows (machine_of s) rested end
     fourth_follows = end_follows s rested r.urb (subst (λ (t : UrbState). 0 < t.handlers) (sym rested_state) given_runs)

@@ -8,13 +8,13 @@ use Rattle.std.proofs.lemmas.List.Quantifiers.{position-Some}
 use Rattle.usb_machine.specs.declared.layout.Shape.{Shape}
 use Rattle.usb_machine.specs.Queues.{HomeIsBelow}
 use Rattle.usb_machine.specs.Plain.{IsLayout}
-use Rattle.usb_xfer.specs.declared.device.Reply.{Reply}
-use Rattle.usb_xfer.specs.declared.device.Reply.TheVariants.{Nak, Stall, Error, Packet}
+use Rattle.usb_xfer.specs.Replies.{Reply}
+use Rattle.usb_xfer.specs.declared.script.What.TheVariants.{Ack, Nak, Stall, Error, Packet}
 use Rattle.usb_run.specs.declared.scene.Scene.{Scene}
 use Rattle.usb_run.specs.declared.scene.SceneDevice.{SceneDevice}
 use Rattle.usb_run.specs.declared.scene.SceneUrb.{SceneUrb}
-use Rattle.usb_run.specs.declared.scene.Answers.{Answers}
-use Rattle.usb_run.specs.declared.scene.Item.{Item}
+use Rattle.usb_xfer.specs.declared.script.Answers.{Answers}
+use Rattle.usb_xfer.specs.declared.script.Item.{Item}
 use Rattle.usb_run.specs.Prepared.{control_end, shapes_from, shapes_of, is_at, home_at, machine_of}
 use Rattle.usb_run.specs.WellFormed.{IsShort, IsItem, IsDevice, IsWellFormed}
 use Rattle.usb_run.specs.Short.{is_short, are_short, lines_are_short}
@@ -46,6 +46,7 @@ pub few_shapes : (s : Scene) → IsWellFormed s → length (shapes_of s) ≤ 2
 few_shapes s good = few_from 0 s.devices good.one_device good.devices
 
 reply_fits : (r : Reply) → IsShort r → is_short r ≡ true
+reply_fits Ack f = refl
 reply_fits Nak f = refl
 reply_fits Stall f = refl
 reply_fits Error f = refl
@@ -53,7 +54,7 @@ reply_fits (Packet bytes) f = let l : length bytes < 2 ^ 32 = omega arith in gri
 
 items_fit : (items : List Item) → All IsItem items → are_short items ≡ true
 items_fit [] a = refl
-items_fit (x ∷ items) a = (λ i. reply_fits x.reply (a zero x (omega arith)).packet i && items_fit items (λ k d l. a (suc k) d (omega arith)) i)
+items_fit (x ∷ items) a = (λ i. reply_fits x.what (a zero x (omega arith)).packet i && items_fit items (λ k d l. a (suc k) d (omega arith)) i)
 
 pub lines_fit : (lines : List Answers) → All (λ (said : Answers). All IsItem said.items) lines → lines_are_short lines ≡ true
 lines_fit [] a = refl

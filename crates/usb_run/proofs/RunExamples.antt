@@ -11,15 +11,15 @@ use Rattle.usb_machine.specs.declared.layout.EndKind.TheVariants.{Bulk}
 use Rattle.usb_machine.specs.declared.layout.Shape.{Shape}
 use Rattle.usb_machine.specs.declared.transfer.Transfer.{Transfer}
 use Rattle.usb_machine.specs.declared.entry.Entry.{Entry}
-use Rattle.usb_xfer.specs.declared.device.Reply.{Reply}
-use Rattle.usb_xfer.specs.declared.device.Reply.TheVariants.{Nak, Packet}
+use Rattle.usb_xfer.specs.Replies.{Reply}
+use Rattle.usb_xfer.specs.declared.script.What.TheVariants.{Nak, Packet}
 use Rattle.usb_xfer.specs.declared.packet.Step.TheVariants.{More}
 use Rattle.usb_xfer.specs.Moved.{stops, moved_state, IsWhole}
 use Rattle.usb_run.specs.declared.scene.Scene.{Scene}
 use Rattle.usb_run.specs.declared.scene.SceneDevice.{SceneDevice}
 use Rattle.usb_run.specs.declared.scene.SceneThread.{SceneThread}
-use Rattle.usb_run.specs.declared.scene.Answers.{Answers}
-use Rattle.usb_run.specs.declared.scene.Item.{Item}
+use Rattle.usb_xfer.specs.declared.script.Answers.{Answers}
+use Rattle.usb_xfer.specs.declared.script.Item.{Item}
 use Rattle.usb_run.specs.declared.scene.Call.{Call}
 use Rattle.usb_run.specs.declared.scene.CallKind.TheVariants as call
 use Rattle.usb_run.specs.declared.made.CallMade.{CallMade}
@@ -48,7 +48,7 @@ scene len items calls = record {
 }
 
 abbrev once : Reply → Item
-once reply = record { times = 1; reply = reply }
+once reply = record { times = 1; what = reply }
 
 abbrev submit_on : ℕ → Call
 submit_on line = record { line = line; kind = call.Submit 0 }
@@ -92,17 +92,17 @@ abbrev whole : Progress
 whole = record { history = history; made = made; rounds = round ∷ []; so_far = [] }
 
 -- a list of one reply ends with it
-whole_one : (max : ℕ) (t : Transfer) (reply : Reply) → IsWhole max t (reply ∷ [])
-whole_one max t reply [] r after e s = cc
-whole_one max t reply (b ∷ []) r after e s = cc
-whole_one max t reply (b ∷ c ∷ before) r after e s = cc
+whole_one : (shape : Shape) (t : Transfer) (reply : Reply) → IsWhole shape t (reply ∷ [])
+whole_one shape t reply [] r after e s = cc
+whole_one shape t reply (b ∷ []) r after e s = cc
+whole_one shape t reply (b ∷ c ∷ before) r after e s = cc
 
 abbrev after_submit : Progress
 after_submit = record { history = take 2 history; made = take 1 made; rounds = []; so_far = [] }
 
 in_line : IsLine one_packet whole
 in_line = serve after_submit (record whole { made = take 1 made }) (record whole { made = take 1 made }) 0 6 (submit at_start 0 5 0 start (omega arith))
-    (one after_submit 0 sent 1 Zero none record { others = []; first = refl; transfer = refl } record { some = omega arith; before = λ k a b. absurd (omega arith); state = refl; whole = whole_one 8 sent short })
+    (one after_submit 0 sent 1 Zero none record { others = []; first = refl; transfer = refl } record { some = omega arith; before = λ k a b. absurd (omega arith); state = refl; whole = whole_one bulk_in sent short })
     (nothing refl)
 
 line_run : IsLineRun one_packet whole
@@ -142,7 +142,7 @@ run = record {
   told = (line_is_run one_packet whole well_formed line_run).told;
   gives = refl;
   replies = λ e. own_replies e;
-  moves = All-cons (IsGiveback one_packet) round [] record { state = refl; whole = whole_one 8 sent short } (All-nil (IsGiveback one_packet));
+  moves = All-cons (IsGiveback one_packet) round [] record { state = refl; whole = whole_one bulk_in sent short } (All-nil (IsGiveback one_packet));
 }
   where
     own_calls : (i : ℕ) (thread : SceneThread) → slice_get one_packet.threads i ≡ Some thread → map (λ (m : CallMade). m.call) (made_by i made) ≡ thread.calls
@@ -202,15 +202,15 @@ abbrev so_long : ℕ → ℕ → List Giveback → List Reply → Progress
 so_long entries calls rounds had = record { history = take entries long_history; made = take calls long_made; rounds = rounds; so_far = had }
 
 -- a reply that comes before the last does not end the transfer
-whole_two : IsWhole 8 long_sent (full ∷ Nak ∷ [])
-whole_two [] r after e s = let same : full ≡ r = cc in let b : false ≡ true = ap (stops 8 16 []) same ∙ s in cc
+whole_two : IsWhole bulk_in long_sent (full ∷ Nak ∷ [])
+whole_two [] r after e s = let same : full ≡ r = cc in let b : false ≡ true = ap (stops bulk_in long_sent []) same ∙ s in cc
 whole_two (b ∷ []) r after e s = cc
 whole_two (b ∷ c ∷ []) r after e s = cc
 whole_two (b ∷ c ∷ d ∷ before) r after e s = cc
 
-whole_three : IsWhole 8 long_sent (full ∷ Nak ∷ short ∷ [])
-whole_three [] r after e s = let same : full ≡ r = cc in let b : false ≡ true = ap (stops 8 16 []) same ∙ s in cc
-whole_three (b ∷ []) r after e s = let same : Nak ≡ r = cc in let b : false ≡ true = ap (stops 8 16 (b ∷ [])) same ∙ s in cc
+whole_three : IsWhole bulk_in long_sent (full ∷ Nak ∷ short ∷ [])
+whole_three [] r after e s = let same : full ≡ r = cc in let b : false ≡ true = ap (stops bulk_in long_sent []) same ∙ s in cc
+whole_three (b ∷ []) r after e s = let same : Nak ≡ r = cc in let b : false ≡ true = ap (stops bulk_in long_sent (b ∷ [])) same ∙ s in cc
 whole_three (b ∷ c ∷ []) r after e s = cc
 whole_three (b ∷ c ∷ d ∷ []) r after e s = cc
 whole_three (b ∷ c ∷ d ∷ f ∷ before) r after e s = cc
@@ -219,7 +219,7 @@ first_serve : IsLine with_wait (so_long 3 2 [] (full ∷ Nak ∷ []))
 first_serve = serve (so_long 2 1 [] []) (so_long 2 1 [] []) (so_long 3 1 [] (full ∷ Nak ∷ [])) 0 6 (submit at_start 0 5 0 start (omega arith)) none
     (waiting 0 long_sent 2 record { others = []; first = refl; transfer = refl } record { some = omega arith; before = λ k a b. before_two k a b; state = refl; whole = whole_two })
   where
-    before_two : (k : ℕ) → 0 < k → k < 2 → moved_state 8 long_sent (replies_from (script_of with_wait 1) 0 k) ≡ More
+    before_two : (k : ℕ) → 0 < k → k < 2 → moved_state bulk_in long_sent (replies_from (script_of with_wait 1) 0 k) ≡ More
     before_two zero a b = absurd (omega arith)
     before_two (suc zero) a b = refl
     before_two (suc (suc k)) a b = absurd (omega arith)

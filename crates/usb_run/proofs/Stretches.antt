@@ -1,7 +1,7 @@
 -- Stretches of a script.
 use Rattle.std.proofs.Common.{ℕ, zero, suc, ◌≡◌, ◌+◌, ◌≤◌, List, [], ◌∷◌, ◌++◌, length, take, refl, ap, ◌∙◌, arith}
-use Rattle.usb_xfer.specs.declared.device.Reply.{Reply}
-use Rattle.usb_run.specs.declared.scene.Item.{Item}
+use Rattle.usb_xfer.specs.Replies.{Reply}
+use Rattle.usb_xfer.specs.declared.script.Item.{Item}
 use Rattle.usb_run.specs.Script.{reply_at, replies_from}
 
 take-zero : (l : List Reply) → take 0 l ≡ []

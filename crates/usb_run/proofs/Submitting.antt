@@ -1,5 +1,5 @@
 -- What a submit does to what the run's object keeps.
-use Rattle.std.proofs.Common.{ℕ, ◌≡◌, ◌≢◌, ◌+◌, ◌<◌, Bool, true, false, cond, Some, List, [], ◌∷◌, ◌++◌, length, take, drop, refl, sym, ap, ◌∙◌, subst, arith, append_assoc}
+use Rattle.std.proofs.Common.{ℕ, ◌≡◌, ◌≢◌, ◌+◌, ◌*◌, ◌<◌, Bool, true, false, cond, Some, List, [], ◌∷◌, ◌++◌, length, take, drop, min, refl, sym, ap, ◌∙◌, subst, arith, append_assoc}
 use Rattle.std.specs.Prelude.{◌==◌}
 use Rattle.std.proofs.lemmas.Grind.{common_steps}
 use Rattle.usb_types.specs.declared.errno.Errno.TheVariants.{EBUSY, ENODEV, EPERM, ENOENT, ESHUTDOWN}
@@ -16,13 +16,15 @@ use Rattle.usb_machine.specs.declared.plain.Plain.{Plain}
 use Rattle.usb_machine.specs.State.{refusal}
 use Rattle.usb_machine.specs.History.{home_of, state_of}
 use Rattle.usb_machine.specs.Plain.{Stands}
-use Rattle.usb_xfer.specs.Moved.{moved, IsOpen}
+use Rattle.usb_xfer.specs.Moved.{moved, moved_by, IsOpen}
+use Rattle.usb_machine.specs.declared.layout.Shape.{Shape}
 use Rattle.usb_machine.specs.Shapes.{HasWindow}
+use Rattle.usb_xfer.specs.Direction.{Direction, In, Out, direction_of}
 use Rattle.usb_run.specs.declared.scene.Scene.{Scene}
 use Rattle.usb_run.specs.declared.place.Place.{Place}
 use Rattle.usb_run.specs.declared.place.Place.TheVariants as place
 use Rattle.usb_run.specs.declared.turn.LineRun.{LineRun}
-use Rattle.usb_run.specs.Prepared.{pass_of, machine_of, max_of, fresh}
+use Rattle.usb_run.specs.Prepared.{pass_of, machine_of, shape_of, fresh}
 use Rattle.usb_run.specs.WellFormed.{IsWellFormed}
 use Rattle.usb_run.specs.Line.{Progress, served_end, with_call}
 use Rattle.usb_run.specs.Shows.{told_code, is_held, IsGated, IsMoving, Lists, Lies, Shows, Submitted, submit_made}
@@ -44,11 +46,18 @@ out_lies s f place.Out e l = l
 out_lies s f (place.Line t) e l = cc
 out_lies s f (place.Pending t) e l = cc
 
-nothing_moved : (max : ℕ) (t : Transfer) → t.from ≡ 0 → t.actual ≡ 0 → t ≡ moved max t []
-nothing_moved max t f a = (λ i. record t { buf = same i; actual = a i })
+nothing_moved_by : (d : Direction) (max : ℕ) (t : Transfer) → t.from ≡ 0 → t.actual ≡ 0 → t ≡ moved_by d max t []
+nothing_moved_by In max t f a = (λ i. record t { buf = same i; actual = a i })
   where
     same : t.buf ≡ take t.from t.buf ++ [] ++ drop (t.from + 0) t.buf
     same = grind (arith, common_steps)
+nothing_moved_by Out max t f a = (λ i. record t { actual = none i })
+  where
+    none : t.actual ≡ min t.len (max * 0)
+    none = omega arith
+
+nothing_moved : (shape : Shape) (t : Transfer) → t.from ≡ 0 → t.actual ≡ 0 → t ≡ moved shape t []
+nothing_moved shape t f a = nothing_moved_by (direction_of shape) shape.max t f a
 
 module _ (s : Scene) (good : IsWellFormed s) (f : Progress) (thread : ℕ) (there : thread < length s.threads) (line : ℕ) (near : 0 < length s.urbs) (run : LineRun) (shows : Shows s f run)
     (mid : Plain) (pass : ℕ) (a : Answer) (by : pass ≡ pass_of s thread)
@@ -89,8 +98,8 @@ module _ (s : Scene) (good : IsWellFormed s) (f : Progress) (thread : ℕ) (ther
         start = t;
         sent_it = submit_sent s h thread line 0 Zero ∙ ap Some (sym is);
         window = window;
-        moving = subst (λ o. t ≡ moved (max_of s 0) t o) (sym lies.1) (nothing_moved (max_of s 0) t (ap (λ (t : Transfer). t.from) is) (ap (λ (t : Transfer). t.actual) is));
-        going = subst (λ o. IsOpen (max_of s 0) t o) (sym lies.1) refl;
+        moving = subst (λ o. t ≡ moved (shape_of s 0) t o) (sym lies.1) (nothing_moved (shape_of s 0) t (ap (λ (t : Transfer). t.from) is) (ap (λ (t : Transfer). t.actual) is));
+        going = subst (λ o. IsOpen (shape_of s 0) t o) (sym lies.1) refl;
       } in
       let kept : Shows s (after Zero) record run { plain = new; place = place.Line t } = record {
         stands = linked;

@@ -10,27 +10,28 @@ use Rattle.usb_machine.specs.declared.state.UrbState.{UrbState}
 use Rattle.usb_machine.specs.declared.plain.Plain.{Plain}
 use Rattle.usb_machine.specs.History.{home_of, state_of, line_of, without}
 use Rattle.usb_machine.specs.Plain.{urbs_of, Stands}
-use Rattle.usb_xfer.specs.declared.device.Reply.{Reply}
+use Rattle.usb_xfer.specs.Replies.{Reply}
 use Rattle.usb_xfer.specs.declared.packet.Step.{Step}
 use Rattle.usb_xfer.specs.declared.packet.Step.TheVariants.{More, Waiting, Ended}
 use Rattle.usb_xfer.specs.Moved.{moved, state_by}
 use Rattle.usb_xfer.specs.On.{Gave, RunsOn, Stops}
 use Rattle.usb_run.specs.declared.scene.Scene.{Scene}
 use Rattle.usb_run.specs.declared.made.Given.{Given}
-use Rattle.usb_run.specs.declared.scene.Item.{Item}
+use Rattle.usb_xfer.specs.declared.script.Item.{Item}
 use Rattle.usb_run.specs.declared.device.Scripted.{Scripted}
 use Rattle.usb_run.specs.declared.place.Place.{Place}
 use Rattle.usb_run.specs.declared.place.Place.TheVariants as place
 use Rattle.usb_run.specs.declared.turn.LineRun.{LineRun}
 use Rattle.usb_run.specs.Script.{replies_from}
-use Rattle.usb_run.specs.Prepared.{home_at, machine_of, max_of, script_of}
+use Rattle.usb_run.specs.Prepared.{home_at, machine_of, shape_of, script_of}
 use Rattle.usb_run.specs.WellFormed.{IsWellFormed}
 use Rattle.usb_run.specs.Run.{Giveback, giveback_entries, replies_in}
 use Rattle.usb_run.specs.Scripted.{IsAfter, Replied}
 use Rattle.usb_run.specs.Given.{moved_bytes, given_of}
 use Rattle.usb_run.specs.Line.{Progress, served_end, replies_used, taken, had_after, GoesTo, IsServed, giveback_of, given_back, waits, nothing, waiting, one}
 use Rattle.usb_run.specs.Shows.{code_of, in_place, is_held, IsHeldBy, IsGated, IsMoving, Lists, Lies, Shows, CanGive, Turned}
-use Rattle.usb_run.proofs.Homes.{home_served, served_shape, size_served}
+use Rattle.usb_run.proofs.Homes.{home_served, served_shape, is_served}
+use Rattle.usb_run.proofs.Moves.{moved_number}
 use Rattle.usb_run.proofs.Takes.{takes_line, takes_pending, takes_state, takes_sent}
 use Rattle.usb_run.proofs.Rounds.{round_state, round_line, round_pending}
 use Rattle.usb_run.proofs.Stretches.{length-replies_from}
@@ -107,7 +108,7 @@ is_ended (Ended d) c e = let same : d ≡ c = cc in ap Ended same
 
 -- the first pending transfer was moved on until it ended or waits
 module _ (s : Scene) (good : IsWellFormed s) (f : Progress) (near : 0 < length s.urbs) (run : LineRun) (t now : Transfer) (k : Shows s (taken s f) record run { place = place.Pending t })
-    (after : Scripted) (more : List Reply) (step : Step) (gave : Gave Replied run.shape.address run.device more after) (goes_on : RunsOn run.shape.max t now more step) where
+    (after : Scripted) (more : List Reply) (step : Step) (gave : Gave Replied run.shape t run.device more now after) (goes_on : RunsOn run.shape t now more step) where
   abbrev m : Progress
   m = taken s f
 
@@ -120,14 +121,14 @@ module _ (s : Scene) (good : IsWellFormed s) (f : Progress) (near : 0 < length s
   abbrev start : Transfer
   start = k.lies.1.start
 
-  size : run.shape.max ≡ max_of s 0
-  size = ap (λ (x : Shape). x.max) (subst (λ (o : Option Shape). IfSome o (λ x. run.shape ≡ x)) (served_shape s good 0 near).stands k.shape) ∙ sym (size_served s good 0 near)
+  same_shape : run.shape ≡ shape_of s 0
+  same_shape = subst (λ (o : Option Shape). IfSome o (λ x. run.shape ≡ x)) (served_shape s good 0 near).stands k.shape ∙ sym (is_served s good 0 near)
 
   script : (more ≡ replies_from items (replies_used m) n) × IsAfter after items (replies_used m + n)
-  script = chain items run.shape.address run.device after more (replies_used m) gave (sym k.address) k.script
+  script = chain items run.shape t run.device more now after (replies_used m) gave (sym k.address) k.script
 
-  stop : Stops (max_of s 0) start m.so_far more now step
-  stop = (subst (λ (size : ℕ). RunsOn size t now more step) size goes_on).stops start m.so_far k.lies.1.window k.lies.1.going k.lies.1.moving
+  stop : Stops (shape_of s 0) start m.so_far more now step
+  stop = (subst (λ (shape : Shape). RunsOn shape t now more step) same_shape goes_on).stops start m.so_far k.lies.1.window k.lies.1.going k.lies.1.moving
 
   so_far : GoesTo s 0 start m n step
   so_far = goes s 0 m start now more step script.0 goes_on.some stop
@@ -135,11 +136,11 @@ module _ (s : Scene) (good : IsWellFormed s) (f : Progress) (near : 0 < length s
   served : IsServed s m 0 start
   served = record { others = []; first = k.lies.0.in_pending; transfer = k.lies.1.sent_it }
 
-  moved_now : now ≡ moved (max_of s 0) start (had_after s m n)
-  moved_now = stop.transfer ∙ ap (λ l. moved (max_of s 0) start (m.so_far ++ l)) script.0
+  moved_now : now ≡ moved (shape_of s 0) start (had_after s m n)
+  moved_now = stop.transfer ∙ ap (λ l. moved (shape_of s 0) start (m.so_far ++ l)) script.0
 
   new_address : after.address ≡ run.shape.address
-  new_address = same_address run.shape.address run.device after more gave ∙ k.address
+  new_address = same_address run.shape t run.device more now after gave ∙ k.address
 
   -- it waits
   pub turned_waiting : code_of step ≡ None → Turned s f false record run { device = after; place = place.Pending now }
@@ -174,7 +175,7 @@ module _ (s : Scene) (good : IsWellFormed s) (f : Progress) (near : 0 < length s
     can_give = record { urb = refl; home = home; first = k.lies.0.in_pending; window = k.lies.1.window; gate = k.gate }
 
     pub same_number : start.number ≡ now.number
-    same_number = sym (ap (λ (t : Transfer). t.number) moved_now)
+    same_number = sym (ap (λ (t : Transfer). t.number) moved_now ∙ moved_number (shape_of s 0) start (had_after s m n))
 
     long : replies_used m + n ≡ replies_used (given_back s m r)
     long =

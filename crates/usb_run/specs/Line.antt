@@ -9,7 +9,7 @@ use Rattle.usb_machine.specs.declared.entry.Entry.{Entry}
 use Rattle.usb_machine.specs.declared.transfer.Transfer.{Transfer}
 use Rattle.usb_machine.specs.State.{refusal}
 use Rattle.usb_machine.specs.History.{state_of, line_of, pending_of, sent_of}
-use Rattle.usb_xfer.specs.declared.device.Reply.{Reply}
+use Rattle.usb_xfer.specs.Replies.{Reply}
 use Rattle.usb_xfer.specs.declared.packet.Step.{Step}
 use Rattle.usb_xfer.specs.declared.packet.Step.TheVariants.{More, Waiting, Ended}
 use Rattle.usb_xfer.specs.Moved.{moved_state, IsWhole}
@@ -18,7 +18,7 @@ use Rattle.usb_run.specs.declared.scene.CallKind.TheVariants as call
 use Rattle.usb_run.specs.declared.made.CallMade.{CallMade}
 use Rattle.usb_run.specs.declared.made.CallAnswer.TheVariants as told
 use Rattle.usb_run.specs.Script.{replies_from}
-use Rattle.usb_run.specs.Prepared.{machine_of, max_of, script_of, calls_of}
+use Rattle.usb_run.specs.Prepared.{machine_of, shape_of, script_of, calls_of}
 use Rattle.usb_run.specs.Run.{Giveback, entry, call_entries, giveback_entries, replies_in}
 
 -- the number of the endpoint that is served
@@ -55,9 +55,9 @@ had_after s f n = f.so_far ++ replies_from (script_of s served_end) (replies_use
 -- the next n replies are the first after which the transfer of URB u does not go on
 pub record GoesTo (s : Scene) (u : ℕ) (t : Transfer) (f : Progress) (n : ℕ) (step : Step) : Type 0 where
   pub some : 0 < n
-  pub before : (k : ℕ) → 0 < k → k < n → moved_state (max_of s u) t (had_after s f k) ≡ More
-  pub state : moved_state (max_of s u) t (had_after s f n) ≡ step
-  pub whole : IsWhole (max_of s u) t (had_after s f n)
+  pub before : (k : ℕ) → 0 < k → k < n → moved_state (shape_of s u) t (had_after s f k) ≡ More
+  pub state : moved_state (shape_of s u) t (had_after s f n) ≡ step
+  pub whole : IsWhole (shape_of s u) t (had_after s f n)
 
 -- the URB that is first pending, with the transfer that it was submitted with
 pub record IsServed (s : Scene) (f : Progress) (u : ℕ) (t : Transfer) : Type 0 where

@@ -11,7 +11,7 @@ use Rattle.usb_run.specs.declared.scene.Scene.{Scene}
 use Rattle.usb_run.specs.declared.scene.SceneDevice.{SceneDevice}
 use Rattle.usb_run.specs.declared.scene.SceneUrb.{SceneUrb}
 use Rattle.usb_run.specs.declared.scene.SceneThread.{SceneThread}
-use Rattle.usb_run.specs.declared.scene.Item.{Item}
+use Rattle.usb_xfer.specs.declared.script.Item.{Item}
 use Rattle.usb_run.specs.declared.scene.Call.{Call}
 use Rattle.usb_run.specs.Script.{items_at}
 
@@ -51,13 +51,13 @@ pass_of s i = pass_by i (slice_get s.threads i)
 abbrev pub machine_of : Scene → Machine
 machine_of s = record { layout = record { homes = map (home_at s) s.urbs; shapes = shapes_of s }; passes = 2 + (length s.threads + 1); bottom = SERVER }
 
-abbrev pub max_in : Option Shape → ℕ
-max_in None = 0
-max_in (Some shape) = shape.max
+abbrev pub or_control : Option Shape → Shape
+or_control None = control_end 0
+or_control (Some shape) = shape
 
--- the packet size of an URB's home
-abbrev pub max_of : Scene → ℕ → ℕ
-max_of s u = max_in (slice_get (shapes_of s) (home_of (machine_of s) u))
+-- the shape of an URB's home. That of a control endpoint where there is none
+abbrev pub shape_of : Scene → ℕ → Shape
+shape_of s u = or_control (slice_get (shapes_of s) (home_of (machine_of s) u))
 
 abbrev pub script_in : ℕ → Option SceneDevice → List Item
 script_in address None = []

@@ -6,8 +6,8 @@ use Rattle.usb_machine.specs.declared.layout.EndKind.TheVariants.{Bulk}
 use Rattle.usb_machine.specs.declared.layout.Shape.{Shape}
 use Rattle.usb_run.specs.declared.scene.Scene.{Scene}
 use Rattle.usb_run.specs.declared.scene.SceneDevice.{SceneDevice}
-use Rattle.usb_run.specs.declared.scene.Answers.{Answers}
-use Rattle.usb_run.specs.declared.scene.Item.{Item}
+use Rattle.usb_xfer.specs.declared.script.Answers.{Answers}
+use Rattle.usb_xfer.specs.declared.script.Item.{Item}
 use Rattle.usb_run.specs.declared.scene.SceneUrb.{SceneUrb}
 use Rattle.usb_run.specs.declared.scene.SceneThread.{SceneThread}
 use Rattle.usb_run.specs.declared.scene.Call.{Call}

@@ -13,7 +13,7 @@ use Rattle.usb_machine.specs.State.{is_zero, finishes}
 use Rattle.usb_machine.specs.History.{Episode, episodes_of, home_of}
 use Rattle.usb_machine.specs.Parts.{part_of}
 use Rattle.usb_machine.specs.Legal.{IsLegal}
-use Rattle.usb_xfer.specs.declared.device.Reply.{Reply}
+use Rattle.usb_xfer.specs.Replies.{Reply}
 use Rattle.usb_xfer.specs.declared.packet.Step.TheVariants.{Ended}
 use Rattle.usb_xfer.specs.Moved.{moved, moved_state, IsWhole}
 use Rattle.usb_run.specs.declared.scene.Scene.{Scene}
@@ -24,7 +24,7 @@ use Rattle.usb_run.specs.declared.made.CallMade.{CallMade}
 use Rattle.usb_run.specs.declared.made.CallAnswer.{CallAnswer}
 use Rattle.usb_run.specs.declared.made.CallAnswer.TheVariants as told
 use Rattle.usb_run.specs.Script.{replies_from}
-use Rattle.usb_run.specs.Prepared.{machine_of, max_of, script_of, fresh, pass_of}
+use Rattle.usb_run.specs.Prepared.{machine_of, shape_of, script_of, fresh, pass_of}
 
 abbrev pub entry : ℕ → Event → Answer → Option Transfer → Entry
 entry p e a t = record { pass = p; event = e; answer = a; carried = t }
@@ -49,7 +49,7 @@ pub record Giveback : Type 0 where
 
 -- the transfer that comes back of a round
 abbrev pub moved_in : Scene → Giveback → Transfer
-moved_in s r = moved (max_of s r.urb) r.sent r.replies
+moved_in s r = moved (shape_of s r.urb) r.sent r.replies
 
 -- the handler rests the transfer
 abbrev pub handler_entries : Scene → Giveback → List Entry
@@ -69,8 +69,8 @@ episode_of r = record { urb = r.urb; status = Status r.status; transfer = Some r
 
 -- the replies move the transfer to its end, and none before the last does
 pub record IsGiveback (s : Scene) (r : Giveback) : Type 0 where
-  pub state : moved_state (max_of s r.urb) r.sent r.replies ≡ Ended r.status
-  pub whole : IsWhole (max_of s r.urb) r.sent r.replies
+  pub state : moved_state (shape_of s r.urb) r.sent r.replies ≡ Ended r.status
+  pub whole : IsWhole (shape_of s r.urb) r.sent r.replies
 
 -- whether an entry belongs to no round: a Take, or a Finish that found a mark
 abbrev pub is_aside : Event → Answer → Bool

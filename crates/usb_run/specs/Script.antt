@@ -1,14 +1,14 @@
 -- What a script replies to the calls of one address, by the number of the calls before.
 use Rattle.std.specs.Prelude.{ℕ, zero, suc, ◌-◌, ◌==◌, nat_lt, if◌then◌else◌, List, [], ◌∷◌, ◌++◌}
-use Rattle.usb_xfer.specs.declared.device.Reply.{Reply}
-use Rattle.usb_xfer.specs.declared.device.Reply.TheVariants.{Nak}
-use Rattle.usb_run.specs.declared.scene.Item.{Item}
-use Rattle.usb_run.specs.declared.scene.Answers.{Answers}
+use Rattle.usb_xfer.specs.Replies.{Reply}
+use Rattle.usb_xfer.specs.declared.script.What.TheVariants.{Nak}
+use Rattle.usb_xfer.specs.declared.script.Item.{Item}
+use Rattle.usb_xfer.specs.declared.script.Answers.{Answers}
 
 -- an item replies as often as it says, and after the last comes Nak
 abbrev pub reply_at : List Item → ℕ → Reply
 reply_at [] n = Nak
-reply_at (item ∷ items) n = if nat_lt n item.times then item.reply else reply_at items (n - item.times)
+reply_at (item ∷ items) n = if nat_lt n item.times then item.what else reply_at items (n - item.times)
 
 -- the next n replies, where m calls came before
 abbrev pub replies_from : List Item → ℕ → ℕ → List Reply

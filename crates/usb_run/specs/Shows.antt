@@ -26,7 +26,7 @@ use Rattle.usb_run.specs.declared.place.Place.{Place}
 use Rattle.usb_run.specs.declared.place.Place.TheVariants as place
 use Rattle.usb_run.specs.declared.turn.LineRun.{LineRun}
 use Rattle.usb_run.specs.declared.made.Outcome.{Outcome}
-use Rattle.usb_run.specs.Prepared.{machine_of, shapes_of, max_of, script_of}
+use Rattle.usb_run.specs.Prepared.{machine_of, shapes_of, shape_of, script_of}
 use Rattle.usb_run.specs.Run.{Giveback}
 use Rattle.usb_run.specs.Scripted.{IsAfter}
 use Rattle.usb_run.specs.Line.{Progress, served_end, replies_used, GivesBack, IsIdle, IsLine, IsLineRun, with_call}
@@ -89,8 +89,8 @@ pub record IsMoving (s : Scene) (f : Progress) (t : Transfer) : Type 0 where
   pub start : Transfer
   pub sent_it : sent_of f.history 0 ≡ Some start
   pub window : HasWindow start
-  pub moving : t ≡ moved (max_of s 0) start f.so_far
-  pub going : IsOpen (max_of s 0) start f.so_far
+  pub moving : t ≡ moved (shape_of s 0) start f.so_far
+  pub going : IsOpen (shape_of s 0) start f.so_far
 
 -- what stands in the line and in the pending list of the served endpoint
 pub record Lists (s : Scene) (f : Progress) (line pending : List ℕ) : Type 0 where

@@ -3,9 +3,9 @@ use Rattle.std.specs.Prelude.{ℕ, ◌==◌, ◌&&◌, nat_lt, if◌then◌else�
 use Rattle.std.specs.Option.{option_map}
 use Rattle.std.specs.Str.{bytes_eq}
 use Rattle.usb_text.specs.Kinds.{number_of, is_name, address_of, packet_of}
-use Rattle.usb_xfer.specs.declared.device.Reply.{Reply}
-use Rattle.usb_xfer.specs.declared.device.Reply.TheVariants.{Nak, Stall, Error, Packet}
-use Rattle.usb_run.specs.declared.scene.Item.{Item}
+use Rattle.usb_xfer.specs.Replies.{Reply}
+use Rattle.usb_xfer.specs.declared.script.What.TheVariants.{Nak, Stall, Error, Packet}
+use Rattle.usb_xfer.specs.declared.script.Item.{Item}
 use Rattle.usb_run.specs.declared.statement.Statement.{Statement}
 use Rattle.usb_run.specs.declared.statement.Statement.TheVariants as say
 use Rattle.usb_run.specs.declared.statement.Keyword.{Keyword}
@@ -46,7 +46,7 @@ reply_of text =
 
 -- ITEM: a reply, which comes once
 abbrev pub item_of : List ℕ → Option Item
-item_of text = option_map (λ reply. record { times = 1; reply = reply }) (reply_of text)
+item_of text = option_map (λ reply. record { times = 1; what = reply }) (reply_of text)
 
 -- ITEM ITEM ..
 abbrev pub items_of : List (List ℕ) → Option (List Item)

@@ -4,14 +4,14 @@ use Rattle.std.specs.Prelude.{◌≡◌, ◌<◌, ◌≤◌, ◌^◌, length, So
 use Rattle.std.specs.List.{All}
 use Rattle.usb_machine.specs.declared.layout.EndKind.TheVariants.{Bulk}
 use Rattle.usb_machine.specs.declared.layout.Shape.{Shape}
-use Rattle.usb_xfer.specs.declared.device.Reply.{Reply}
-use Rattle.usb_xfer.specs.declared.device.Reply.TheVariants.{Packet}
+use Rattle.usb_xfer.specs.Replies.{Reply}
+use Rattle.usb_xfer.specs.declared.script.What.TheVariants.{Packet}
 use Rattle.usb_run.specs.declared.scene.Scene.{Scene}
 use Rattle.usb_run.specs.declared.scene.SceneDevice.{SceneDevice}
 use Rattle.usb_run.specs.declared.scene.SceneUrb.{SceneUrb}
 use Rattle.usb_run.specs.declared.scene.SceneThread.{SceneThread}
-use Rattle.usb_run.specs.declared.scene.Answers.{Answers}
-use Rattle.usb_run.specs.declared.scene.Item.{Item}
+use Rattle.usb_xfer.specs.declared.script.Answers.{Answers}
+use Rattle.usb_xfer.specs.declared.script.Item.{Item}
 use Rattle.usb_run.specs.declared.scene.Call.{Call}
 use Rattle.usb_run.specs.declared.scene.CallKind.{CallKind}
 use Rattle.usb_run.specs.declared.scene.CallKind.TheVariants as call
@@ -34,7 +34,7 @@ IsShort _ = Unit {0}
 pub record IsItem (item : Item) : Type 0 where
   pub some : 0 < item.times
   pub most : item.times ≤ 4096
-  pub packet : IsShort item.reply
+  pub packet : IsShort item.what
 
 pub record IsDevice (device : SceneDevice) : Type 0 where
   pub one_end : length device.ends ≤ 1

@@ -1,27 +1,38 @@
 //! The device of a scene, which answers by its script.
-ghost use Rattle.std.specs.Prelude.{◌≡◌, ◌<◌, ◌≤◌, ◌+◌, true, MatchOption};
-ghost use Rattle.usb_xfer.specs.Replies.{Answers as Says};
+ghost use Rattle.std.specs.Prelude.{◌≡◌, ◌<◌, ◌≤◌, ◌+◌, true, ℕ, MatchOption};
+ghost use Rattle.usb_xfer.specs.Replies.{Hears, out_heard};
 ghost use Rattle.usb_run.specs.Short.{is_short, are_short, lines_are_short};
 
-use crate::scene::{Answers, Item};
-use usb_xfer::{Device, InReply, Reply};
+use usb_xfer::{Answers, Device, InReply, Item, OutReply, What};
 
-// Says a reply, with its packet in the room where it fits.
-fn say(reply: &Reply, room: &mut [u8]) -> InReply
+// What the host hears of a reply where it asked for a packet, which stands in the room where it fits.
+fn heard_in(reply: &What, room: &mut [u8]) -> InReply
     requires { is_short reply.now ≡ true }
-    ensures { Says reply.now room.old room.new result }
+    ensures { Hears reply.now room.old room.new result }
 {
     match reply {
-        Reply::Nak => InReply::Nak,
-        Reply::Stall => InReply::Stall,
-        Reply::Error => InReply::Error,
-        Reply::Packet(packet) => {
+        What::Nak => InReply::Nak,
+        What::Stall => InReply::Stall,
+        What::Ack | What::Error => InReply::Error,
+        What::Packet(packet) => {
             let bytes = packet.bytes();
             if bytes.len() <= room.len() {
                 room[..bytes.len()].copy_from_slice(bytes);
             }
             InReply::Packet(bytes.len() as u32)
         }
+    }
+}
+
+// What the host hears of a reply where it sent a packet.
+fn heard_out(reply: &What) -> OutReply
+    ensures { result ≡ out_heard reply.now }
+{
+    match reply {
+        What::Ack => OutReply::Ack,
+        What::Nak => OutReply::Nak,
+        What::Stall => OutReply::Stall,
+        What::Error | What::Packet(_) => OutReply::Error,
     }
 }
 
@@ -45,7 +56,7 @@ pub struct Scripted<'a> {
 }
 
 impl<'a> Scripted<'a> {
-    ghost use Rattle.usb_run.specs.Scripted.{IsAfter};
+    ghost use Rattle.usb_run.specs.Scripted.{IsAfter, coming};
     ghost use Rattle.usb_run.specs.Script.{items_at};
 
     pub fn new(address: u8, lines: &'a [Answers]) -> Scripted<'a>
@@ -60,29 +71,25 @@ impl<'a> Scripted<'a> {
             used: 0,
         }
     }
-}
 
-impl Device for Scripted<'_> {
-    ghost use Rattle.usb_run.specs.Scripted.{Replied};
-
-    ghost replies = { λ old address r new. Replied old address r new };
-
-    fn input(&mut self, address: u8, room: &mut [u8]) -> InReply {
-        if address != self.address {
-            return InReply::Nak;
-        }
+    // The reply to the next call, where an item is left.
+    fn next(&mut self) -> Option<&'a What>
+        ensures address { self.new.address ≡ self.old.address }
+        ensures reply { MatchOption result (coming self.old 0 ≡ What.Nak) (λ what. (what.now ≡ coming self.old 0) × (is_short what.now ≡ true)) }
+        ensures next { (k : ℕ) → coming self.new k ≡ coming self.old (k + 1) }
+    {
         loop {
             match self.items {
                 [item, rest @ ..] => {
                     if let Some(used) = one_more(self.used, item.times) {
                         self.used = used;
-                        return say(&item.reply, room);
+                        return Some(&item.what);
                     }
                     self.used -= item.times;
                     self.items = rest;
                 }
                 [] => match self.lines {
-                    [] => return InReply::Nak,
+                    [] => return None,
                     [said, rest @ ..] => {
                         if said.address == self.address {
                             self.items = said.items.items();
@@ -91,6 +98,33 @@ impl Device for Scripted<'_> {
                     }
                 },
             }
+        }
+    }
+}
+
+impl Device for Scripted<'_> {
+    ghost use Rattle.usb_run.specs.Scripted.{Replied};
+
+    ghost replies = { λ old address question r new. Replied old address question r new };
+
+    fn input(&mut self, address: u8, room: &mut [u8]) -> InReply {
+        if address != self.address {
+            return InReply::Nak;
+        }
+        match self.next() {
+            Some(what) => heard_in(what, room),
+            None => InReply::Nak,
+        }
+    }
+
+    fn output(&mut self, address: u8, packet: &[u8]) -> OutReply {
+        let _ = packet;
+        if address != self.address {
+            return OutReply::Nak;
+        }
+        match self.next() {
+            Some(what) => heard_out(what),
+            None => OutReply::Nak,
         }
     }
 }

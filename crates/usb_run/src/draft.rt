@@ -4,11 +4,12 @@ ghost use Rattle.usb_run.specs.Statements.{keyword_said};
 ghost use Rattle.usb_run.specs.Rules.{empty_scene, may_stand, replies_of, replies_said, calls_said, is_within, statement_cause, scene_with};
 
 use crate::rules::{Cause, add, is_new, last_ends, names_stand};
-use crate::scene::{Item, Scene};
+use crate::scene::Scene;
 use crate::statement::Statement;
 use std::alloc::Global;
 use std::marker::Model;
 use usb_types::{List, Memory};
+use usb_xfer::Item;
 
 const MOST_DEVICES: usize = 1;
 

@@ -4,12 +4,13 @@ ghost use Rattle.std.specs.List.{list_any};
 ghost use Rattle.usb_machine.specs.declared.layout.Shape.{Shape};
 ghost use Rattle.usb_run.specs.Rules.{may_stand, device_number, urb_number, thread_number, ends_of, has_end, last_device, numbered_device, names_stand, is_new, is_within, on_last, with_end, joined, with_answers, with_call, scene_with};
 
-use crate::scene::{Answers, Call, CallKind, Scene, SceneDevice, SceneThread, SceneUrb};
+use crate::scene::{Call, CallKind, Scene, SceneDevice, SceneThread, SceneUrb};
 use crate::statement::{Keyword, Statement};
 use std::alloc::Global;
 use usb_machine::{EndKind, Shape};
 use usb_text::is_text;
 use usb_types::{List, Memory};
+use usb_xfer::Answers;
 
 /// Why a line is bad.
 #[derive(Clone, Copy, Debug, PartialEq, Eq)]

@@ -1,7 +1,7 @@
 //! What a scene says.
 use usb_machine::Shape;
 use usb_types::{Buf, List};
-use usb_xfer::Reply;
+use usb_xfer::Answers;
 
 /// A scene, or as much of one as was read: devices, URBs, and the scripts of threads.
 #[derive(Debug, Drop)]
@@ -18,20 +18,6 @@ pub struct SceneDevice {
     pub name: Buf,
     pub ends: List<Shape>,
     pub answers: List<Answers>,
-}
-
-/// What the device answers at an address, after what earlier lists of this address say.
-#[derive(Debug, Drop)]
-pub struct Answers {
-    pub address: u8,
-    pub items: List<Item>,
-}
-
-/// The reply to so many calls in a row.
-#[derive(Debug, Drop)]
-pub struct Item {
-    pub times: u32,
-    pub reply: Reply,
 }
 
 /// An URB of a device's endpoint, whose submits carry a buffer of `len` zero bytes.

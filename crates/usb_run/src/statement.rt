@@ -3,11 +3,10 @@ ghost use Rattle.std.specs.Prelude.{◌≡◌, ◌∷◌, [], IfOk};
 ghost use Rattle.usb_text.specs.Words.{words};
 ghost use Rattle.usb_run.specs.Statements.{keyword_of, reply_of, item_of, items_of, in_address_of, size_of, len_of, statement_of};
 
-use crate::scene::Item;
 use std::alloc::Global;
 use usb_text::{address, copy, is_name, is_text, next_word, number, packet};
 use usb_types::{Buf, List, Memory};
-use usb_xfer::Reply;
+use usb_xfer::{Item, What};
 
 /// What the first word of a line may be.
 #[derive(Clone, Copy, Debug, PartialEq, Eq)]
@@ -128,24 +127,24 @@ fn ep_of(line: &[u8]) -> Option<Statement>
     }
 }
 
-fn reply(alloc: Global, word: &[u8]) -> Result<Option<Reply>, Memory>
+fn reply(alloc: Global, word: &[u8]) -> Result<Option<What>, Memory>
     ensures { IfOk result (λ reply. reply ≡ reply_of word.now) }
 {
     if is_text(word, "nak") {
-        Ok(Some(Reply::Nak))
+        Ok(Some(What::Nak))
     } else if is_text(word, "stall") {
-        Ok(Some(Reply::Stall))
+        Ok(Some(What::Stall))
     } else if is_text(word, "error") {
-        Ok(Some(Reply::Error))
+        Ok(Some(What::Error))
     } else {
-        Ok(packet(alloc, word)?.map(|bytes| Reply::Packet(bytes)))
+        Ok(packet(alloc, word)?.map(|bytes| What::Packet(bytes)))
     }
 }
 
 fn item(alloc: Global, word: &[u8]) -> Result<Option<Item>, Memory>
     ensures { IfOk result (λ item. item ≡ item_of word.now) }
 {
-    Ok(reply(alloc, word)?.map(|reply| Item { times: 1, reply }))
+    Ok(reply(alloc, word)?.map(|what| Item { times: 1, what }))
 }
 
 // The items that a line's words say.

@@ -1,11 +1,10 @@
 use Rattle.std.proofs.Common.{◌≡◌, ℕ, ◌+◌, length}
 use Rattle.usb_run.specs.Scripted.{left_of, coming}
-use Rattle.usb_run.proofs.device.ScriptedDevice.input.Given as goal
+use Rattle.usb_run.proofs.device.Scripted.next.Given as goal
 
 abbrev pub invariant-loop-self : goal.invariant-loop-self
 invariant-loop-self l = record {
   address : l.self.address ≡ l.fn.self.address;
-  room : l.room ≡ l.fn.room;
   next : (k : ℕ) → coming l.self k ≡ coming l.fn.self k;
 }
 
