@@ -113,6 +113,14 @@ impl Plain {
         }
     }
 
+    /// How many URBs stand in the line of an endpoint.
+    pub fn waiting(&self, ep: u32) -> usize
+        requires { ep < ends_of self.now }
+        ensures { (g : Machine) (h : List Entry) → Stands self.now g h → result ≡ length (line_of g h ep) }
+    {
+        self.ends[ep as usize].line.len()
+    }
+
     /// How many completion handlers of the URB run.
     pub fn handlers(&self, urb: UrbId) -> u64
         requires { urb.0 < urbs_of self.now }
