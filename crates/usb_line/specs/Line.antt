@@ -1,5 +1,5 @@
 -- The run in line order: calls one after another, each with the turns that it waits for, and then the close.
-use Rattle.std.specs.Prelude.{ℕ, zero, suc, ◌≡◌, ◌+◌, ◌<◌, ◌==◌, ◌&&◌, not, Bool, true, false, cond, if◌then◌else◌, ◌⊎◌, List, [], ◌∷◌, ◌++◌, length, map, filter, Option, Some, None}
+use Rattle.std.specs.Prelude.{ℕ, zero, suc, ◌≡◌, ◌+◌, ◌<◌, ◌==◌, ◌&&◌, not, Bool, true, false, if◌then◌else◌, ◌⊎◌, List, [], ◌∷◌, ◌++◌, length, map, filter, Option, Some, None}
 use Rattle.usb_types.specs.declared.errno.Errno.{Errno}
 use Rattle.usb_types.specs.declared.errno.Errno.TheVariants.{ESHUTDOWN}
 use Rattle.usb_types.specs.declared.errno.Code.{Code}
@@ -121,9 +121,9 @@ round_of s f u status finished t replies =
 -- a giveback of the first pending URB of its endpoint leaves no replies for the next
 abbrev pub given_back : Scene → Progress → Giveback → Progress
 given_back s f r = record f {
-    history = f.history ++ giveback_entries s r;
-    rounds = f.rounds ++ r ∷ [];
-    so_far = if is_first r.urb (pending_of (machine_of s) f.history (home s r.urb)) then with_at (home s r.urb) [] f.so_far else f.so_far;
+  history = f.history ++ giveback_entries s r;
+  rounds = f.rounds ++ r ∷ [];
+  so_far = if is_first r.urb (pending_of (machine_of s) f.history (home s r.urb)) then with_at (home s r.urb) [] f.so_far else f.so_far;
 }
 
 -- the replies that a pending URB has had: those of its endpoint, where it is first
@@ -230,10 +230,10 @@ pub data Makes (s : Scene) (f : Progress) (i : ℕ) (c : Call) : Doing → Progr
   served : (m e : Progress) → deed_of c ≡ deed.Serve → GivesBack s (woken f) m → IsIdle s m e → Makes s f i c (doing f i c told.Nothing [] []) e
   killed : (u : ℕ) (m : Progress) → deed_of c ≡ deed.Kill u → WaitsFor s u (killing (pass_of s i) u f) m
       → Makes s f i c (doing f i c (told.Buffer (state_of m.history u).rest) (unlinking (state_of f.history u) ∷ []) [])
-          (adds m (claim_entries (pass_of s i) u (state_of m.history u).rest ++ unblock_entries (pass_of s i) u))
+      (adds m (claim_entries (pass_of s i) u (state_of m.history u).rest ++ unblock_entries (pass_of s i) u))
   poisoned : (u : ℕ) (m : Progress) → deed_of c ≡ deed.Poison u → WaitsFor s u (killing (pass_of s i) u f) m
       → Makes s f i c (doing f i c (told.Buffer (state_of m.history u).rest) (unlinking (state_of f.history u) ∷ []) [])
-          (adds m (claim_entries (pass_of s i) u (state_of m.history u).rest))
+      (adds m (claim_entries (pass_of s i) u (state_of m.history u).rest))
   shut_down : (rests : List (Option ℕ)) (m : Progress) → deed_of c ≡ deed.Down → f.down ≡ false
       → ClaimsEach s (pass_of s i) (shutting s (pass_of s i) f) (urbs_of s) rests m
       → Makes s f i c (doing f i c told.Done (shut_marks s (pass_of s i) f) rests) m

@@ -1,5 +1,5 @@
 -- What a history has to do with a scene, in whatever order its entries came.
-use Rattle.std.specs.Prelude.{ℕ, zero, suc, ◌≡◌, ◌≢◌, ◌<◌, ◌==◌, nat_lt, Bool, true, false, not, cond, if◌then◌else◌, List, [], ◌∷◌, ◌++◌, length, map, filter, count_by, slice_get, is_some, Option, Some, None}
+use Rattle.std.specs.Prelude.{ℕ, zero, suc, ◌≡◌, ◌≢◌, ◌<◌, ◌==◌, nat_lt, Bool, true, false, not, if◌then◌else◌, List, [], ◌∷◌, ◌++◌, length, map, filter, count_by, slice_get, Option, Some, None}
 use Rattle.std.specs.List.{flat_map, All}
 use Rattle.usb_types.specs.declared.errno.Errno.{Errno}
 use Rattle.usb_types.specs.declared.errno.Errno.TheVariants.{ESHUTDOWN}
@@ -8,7 +8,7 @@ use Rattle.usb_types.specs.declared.errno.Code.TheVariants.{Fault}
 use Rattle.usb_types.specs.declared.urb.Flag.TheVariants as flag
 use Rattle.usb_machine.specs.declared.entry.TheConstants.{SERVER}
 use Rattle.usb_machine.specs.declared.event.Event.{Event}
-use Rattle.usb_machine.specs.declared.event.Event.TheVariants.{Submit, Link, Take, Finish, Give, Rest, End, Reject, Quiet}
+use Rattle.usb_machine.specs.declared.event.Event.TheVariants.{Take, Finish, Give, Rest, End, Reject, Quiet}
 use Rattle.usb_machine.specs.declared.event.Answer.{Answer}
 use Rattle.usb_machine.specs.declared.event.Answer.TheVariants.{Nothing, Code as Status, Truth}
 use Rattle.usb_machine.specs.declared.transfer.Transfer.{Transfer}
@@ -31,7 +31,7 @@ use Rattle.usb_line.specs.declared.made.CallAnswer.TheVariants as told
 use Rattle.usb_line.specs.declared.made.Outcome.{Outcome}
 use Rattle.usb_line.specs.declared.made.Outcome.TheVariants as outcome
 use Rattle.usb_line.specs.Script.{replies_from}
-use Rattle.usb_line.specs.Prepared.{machine_of, ends_of, home, shape_at, script_of, fresh, submit_fault, again_of, deed_of, pass_of, main_pass}
+use Rattle.usb_line.specs.Prepared.{machine_of, home, shape_at, script_of, fresh, submit_fault, again_of, deed_of, pass_of, main_pass}
 
 -- the numbers below n, rising
 abbrev pub below : ℕ → List ℕ

@@ -1,25 +1,19 @@
 -- Worked cases of the definitions, computed by the checker.
-use Rattle.std.proofs.Common.{◌≡◌, ℕ, Bool, true, false, List, [], ◌∷◌, ◌++◌, refl, Option, Some, None}
+use Rattle.std.proofs.Common.{◌≡◌, ℕ, Bool, true, false, [], ◌∷◌, refl, Some, None}
 use Rattle.usb_types.specs.declared.errno.Errno.TheVariants.{EBUSY, ENODEV, EPERM, ENOENT, ESHUTDOWN, EIDRM, EINPROGRESS, ECONNRESET, EPIPE, ENOEXEC, EBADR, EMSGSIZE, EINVAL}
-use Rattle.usb_types.specs.declared.errno.Code.{Code}
 use Rattle.usb_types.specs.declared.errno.Code.TheVariants.{Zero, Fault}
 use Rattle.usb_types.specs.declared.urb.UrbId.{UrbId}
 use Rattle.usb_types.specs.declared.urb.Why.TheVariants.{Unlink, Kill, Shutdown}
-use Rattle.usb_types.specs.declared.urb.Flag.TheVariants.{Gone, Off, Down}
-use Rattle.usb_machine.specs.declared.event.Event.{Event}
+use Rattle.usb_types.specs.declared.urb.Flag.TheVariants.{Off}
 use Rattle.usb_machine.specs.declared.event.Event.TheVariants.{Submit, Link, Take, Mark, Finish, Give, Rest, End, Reject, Withdraw, Quiet, Claim, Flag, Unflag}
-use Rattle.usb_machine.specs.declared.event.Answer.{Answer}
 use Rattle.usb_machine.specs.declared.event.Answer.TheVariants.{Nothing, Code as Status, Truth, Urb, Number}
-use Rattle.usb_machine.specs.declared.state.Mark.TheVariants.{Clear, Unlinked, Finished}
+use Rattle.usb_machine.specs.declared.state.Mark.TheVariants.{Unlinked, Finished}
 use Rattle.usb_machine.specs.declared.state.UrbState.{UrbState}
 use Rattle.usb_machine.specs.declared.layout.EndKind.TheVariants.{Control, Bulk, Interrupt, Iso}
 use Rattle.usb_machine.specs.declared.layout.Shape.{Shape}
 use Rattle.usb_machine.specs.declared.transfer.Transfer.{Transfer}
-use Rattle.usb_machine.specs.declared.entry.Entry.{Entry}
-use Rattle.usb_machine.specs.State.{no_flags, opening, answer_of, after}
+use Rattle.usb_machine.specs.State.{opening, answer_of, after}
 use Rattle.usb_machine.specs.Shapes.{shape_fault}
-use Rattle.usb_machine.specs.History.{Machine, state_of, line_of, pending_of, sent_of, Episode, episodes_of}
-use Rattle.usb_machine.specs.Parts.{part_of, owes, held_of, keeps}
 
 -- Each event at a state of its URB: what it answers, and what it changes.
 

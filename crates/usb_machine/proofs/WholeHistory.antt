@@ -1,6 +1,6 @@
 -- A whole history of two URBs of one endpoint, and what stands after it, computed by the checker. The first URB's
 -- transfer ends by itself. The second one is killed: it comes back, stays quiet, and its buffer is claimed.
-use Rattle.std.proofs.Common.{◌≡◌, ℕ, ◌<◌, lit<, lit≤, Bool, true, false, List, [], ◌∷◌, ◌++◌, refl, Option, Some, None}
+use Rattle.std.proofs.Common.{◌≡◌, ℕ, ◌<◌, lit<, lit≤, true, false, List, [], ◌∷◌, ◌++◌, refl, Option, Some, None}
 use Rattle.usb_types.specs.declared.errno.Errno.TheVariants.{EPERM, ENOENT, EINPROGRESS}
 use Rattle.usb_types.specs.declared.errno.Code.TheVariants.{Zero, Fault}
 use Rattle.usb_types.specs.declared.urb.UrbId.{UrbId}
@@ -16,7 +16,7 @@ use Rattle.usb_machine.specs.declared.entry.Entry.{Entry}
 use Rattle.usb_machine.specs.State.{opening, answer_of}
 use Rattle.usb_machine.specs.Shapes.{HasWindow}
 use Rattle.usb_machine.specs.Legal.{May, Carries, urb_of, end_of, IsLegal, empty, longer}
-use Rattle.usb_machine.specs.History.{Machine, state_of, line_of, pending_of, sent_of, Episode, episodes_of}
+use Rattle.usb_machine.specs.History.{Machine, state_of, line_of, pending_of, sent_of, episodes_of}
 use Rattle.usb_machine.specs.Parts.{part_of, owes, held_of, keeps}
 
 -- two URBs of one bulk endpoint, two passes beside the server's and the hub's
