@@ -73,9 +73,13 @@ is_inside plain g h s (Take d) w = subst (λ n. d < n) (sym s.ends) w
 is_inside plain g h s e w = subst (λ n. urb_of e < n) (sym s.urbs) w
 
 module _ (g : Machine) (steps : List Step) (answers : List Answer) (plain : Plain) (i : ℕ) (each : length answers ≡ length (take i steps))
-    (stands : (cs : List (Option Transfer)) → CarryAll g (take i steps) cs → Stands plain g (entries (take i steps) answers cs)) (s : Step) (l : i < length steps) (read : s ≡ get_or steps i s) where
+    (stands : (cs : List (Option Transfer)) → CarryAll g (take i steps) cs → Stands plain g (entries (take i steps) answers cs)) (d : Step) (l : i < length steps) where
+  -- the step at the index
+  abbrev pub s : Step
+  s = get_or steps i d
+
   more : take (i + 1) steps ≡ take i steps ++ s ∷ []
-  more = take_more steps i s l ∙ ap (λ t. take i steps ++ t ∷ []) (sym read)
+  more = take_more steps i d l
 
   pub each_more : (a : Answer) → length (answers ++ a ∷ []) ≡ length (take (i + 1) steps)
   each_more a = length-append answers (a ∷ []) ∙ (ap (λ n. n + 1) each ∙ (sym (length-append (take i steps) (s ∷ [])) ∙ ap length (sym more)))

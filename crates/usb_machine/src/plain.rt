@@ -108,7 +108,10 @@ impl Plain {
         ensures inside { IsTrue result → IsInside self.now event }
         ensures next { (g : Machine) (h : List Entry) → Stands self.now g h → (IsTrue result ↔ Fits self.now g h pass event) }
     {
-        pass < self.passes && self.is_inside(event) && self.may(pass, event) && self.has_room(pass, event)
+        pass < self.passes
+            && self.is_inside(event)
+            && self.may(pass, event)
+            && self.has_room(pass, event)
     }
 
     fn is_inside(&self, event: Event) -> bool

@@ -57,3 +57,6 @@ pub fn replay(
     }
     Ok(Some(answers))
 }
+
+#[cfg(test)]
+mod tests;
