@@ -7,4 +7,5 @@ pub mod Laws
 pub mod Queues
 pub mod Rows
 pub mod Plain
+pub mod Replay
 pub mod Calls

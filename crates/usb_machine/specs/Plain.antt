@@ -81,3 +81,7 @@ pub record Stands (plain : Plain) (g : Machine) (h : List Entry) : Type 0 where
   pub queues : (e : ℕ) → e < ends_of plain → slice_get plain.ends.items e ≡ Some (queues_of g h e)
   pub rows : (p u : ℕ) → p < g.passes → u < urbs_of plain → slice_get plain.rows.items (p * urbs_of plain + u) ≡ Some (row_of (part_of h p) u)
   pub few : (p u : ℕ) → (held_of (part_of h p) u).rejects ≤ 255
+
+-- the pass and what the event is of are there, it may come next, and the counts that it raises have room
+abbrev pub Fits : Plain → Machine → List Entry → ℕ → Event → Type 0
+Fits plain g h p event = (p < g.passes) × IsInside plain event × May g h p event × HasRoom h p event

@@ -10,6 +10,7 @@ mod layout;
 mod pass_row;
 mod plain;
 mod queues;
+mod replays;
 mod state;
 mod transfer;
 
@@ -18,5 +19,6 @@ pub use event::{Answer, Event};
 pub use fault::shape_fault;
 pub use layout::{EndKind, Layout, Shape};
 pub use plain::Plain;
+pub use replays::{Step, replay};
 pub use state::{Flags, Mark, UrbState};
 pub use transfer::Transfer;

@@ -33,7 +33,7 @@ impl Plain {
     ghost use Rattle.usb_machine.specs.Legal.{urb_of, end_of, May, IsFirst, times};
     ghost use Rattle.usb_machine.specs.Queues.{HomeIsBelow, homed_at, no_urbs, linked, given};
     ghost use Rattle.usb_machine.specs.Rows.{no_row};
-    ghost use Rattle.usb_machine.specs.Plain.{IsLayout, IsOfUrb, CanCount, NotesRow, IsInside, IsNext, Stands, urbs_of, ends_of};
+    ghost use Rattle.usb_machine.specs.Plain.{IsLayout, IsOfUrb, CanCount, NotesRow, IsInside, HasRoom, Fits, IsNext, Stands, urbs_of, ends_of};
 
     /// The machine at first: nothing was made, and nothing stands. Passes 0 and 1 are the server's and the hub's, and
     /// `passes` more follow from 2.
@@ -99,6 +99,51 @@ impl Plain {
             Event::Claim { urb } => self.row(pass, urb.0).held.kept,
             Event::Flag { urb, flag } => pass == HUB && !self.has_flag(urb, flag),
             Event::Unflag { urb, flag } => pass == HUB && self.has_flag(urb, flag),
+        }
+    }
+
+    /// Whether this event of this pass may come next: both are there, it may come, and the counts that it raises have
+    /// room.
+    pub fn is_next(&self, pass: u32, event: Event) -> bool
+        ensures inside { IsTrue result → IsInside self.now event }
+        ensures next { (g : Machine) (h : List Entry) → Stands self.now g h → (IsTrue result ↔ Fits self.now g h pass event) }
+    {
+        pass < self.passes
+            && self.is_inside(event)
+            && self.may(pass, event)
+            && self.has_room(pass, event)
+    }
+
+    fn is_inside(&self, event: Event) -> bool
+        ensures { IsTrue result ↔ IsInside self.now event }
+    {
+        match event {
+            Event::Take { ep } => (ep as usize) < self.ends.len(),
+            Event::Submit { urb, .. }
+            | Event::Link { urb }
+            | Event::Mark { urb, .. }
+            | Event::Finish { urb, .. }
+            | Event::Give { urb }
+            | Event::Rest { urb, .. }
+            | Event::End { urb }
+            | Event::Reject { urb }
+            | Event::Withdraw { urb }
+            | Event::Quiet { urb }
+            | Event::Claim { urb }
+            | Event::Flag { urb, .. }
+            | Event::Unflag { urb, .. } => (urb.0 as usize) < self.states.len(),
+        }
+    }
+
+    /// Whether a count that the event raises has room for one more.
+    fn has_room(&self, pass: u32, event: Event) -> bool
+        requires { IsInside self.now event }
+        ensures { (g : Machine) (h : List Entry) → Stands self.now g h → pass < g.passes → (IsTrue result ↔ HasRoom h pass event) }
+    {
+        match event {
+            Event::Give { urb } => self.handlers(urb) < 1 << 63,
+            Event::Reject { urb } => self.row(pass, urb.0).held.rejects < u8::MAX,
+            _ => true,
         }
     }
 
