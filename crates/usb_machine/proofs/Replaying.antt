@@ -1,5 +1,5 @@
 -- One more step of a list of steps.
-use Rattle.std.proofs.Common.{◌≡◌, ℕ, zero, suc, ◌+◌, ◌<◌, ◌≤◌, List, [], ◌∷◌, ◌++◌, map, length, take, drop, get_or, sym, refl, ap, ◌∙◌, subst, arith, Option, length-append}
+use Rattle.std.proofs.Common.{◌≡◌, ℕ, zero, suc, ◌+◌, ◌<◌, List, [], ◌∷◌, ◌++◌, map, length, take, drop, get_or, sym, refl, ap, ◌∙◌, subst, arith, Option, length-append}
 use Rattle.std.proofs.lemmas.List.{take_more, map-append, length-map}
 use Rattle.std.specs.List.{take-map}
 use Rattle.usb_machine.specs.declared.event.Event.{Event}
@@ -11,7 +11,7 @@ use Rattle.usb_machine.specs.declared.replays.Step.{Step}
 use Rattle.usb_machine.specs.declared.plain.Plain.{Plain}
 use Rattle.usb_machine.specs.State.{answer_of}
 use Rattle.usb_machine.specs.History.{Machine, state_of, line_of}
-use Rattle.usb_machine.specs.Legal.{May, urb_of, end_of, Carries, Follows, IsLegal, empty, longer}
+use Rattle.usb_machine.specs.Legal.{urb_of, end_of, Carries, Follows, IsLegal, empty, longer}
 use Rattle.usb_machine.specs.Plain.{IsInside, Stands}
 use Rattle.usb_machine.specs.Replay.{StepFits, IsAnswer, MakesStep, entries, CarryAll, IsWithin, step_of, CanReplay, answers_in}
 use Rattle.usb_machine.proofs.Prefixes.{legal_before, follows_before}

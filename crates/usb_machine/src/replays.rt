@@ -57,6 +57,3 @@ pub fn replay(
     }
     Ok(Some(answers))
 }
-
-#[cfg(test)]
-mod tests;

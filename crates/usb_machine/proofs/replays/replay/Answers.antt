@@ -1,4 +1,4 @@
-use Rattle.std.proofs.Common.{rules, ◌≡◌, ◌<◌, ℕ, ◌+◌, ◌∙◌, ap, arith, length, sym, subst, take}
+use Rattle.std.proofs.Common.{◌+◌, ◌∙◌, ap, length, sym, subst, take}
 use Rattle.usb_machine.specs.declared.event.Event.TheVariants.{Submit}
 use Rattle.usb_machine.specs.declared.replays.Step.{Step}
 use Rattle.usb_machine.specs.Plain.{Stands}
