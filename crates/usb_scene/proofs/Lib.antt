@@ -1,0 +1,15 @@
+mod Allowed
+mod Drafts
+mod FirstBad
+mod HeldCounts
+mod Naming
+mod Placed
+mod PrintedScenes
+mod Pushed
+mod Reading
+mod Scenes
+mod Scripts
+mod Sound
+mod Splitting
+mod WellRead
+mod Whole

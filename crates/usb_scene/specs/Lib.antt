@@ -1,1 +1,10 @@
+pub mod Causes
+pub mod Counts
+pub mod Growth
+pub mod Named
+pub mod PrintedScene
+pub mod Read
+pub mod Rules
+pub mod SceneLaws
+pub mod Split
 pub mod WellFormed

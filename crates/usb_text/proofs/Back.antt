@@ -1,6 +1,6 @@
 -- What is written is read again.
 use Rattle.std.proofs.Common.{◌≡◌, ℕ, ◌+◌, ◌-◌, ◌*◌, ◌<◌, ◌≤◌, ◌^◌, true, cond, List, [], ◌∷◌, ◌++◌, length, get_or, Some, None, zero, suc, refl, ap, ◌∙◌, arith, rules, lit<}
-use Rattle.std.specs.Prelude.{fold, nat_le, option_and_then, Result}
+use Rattle.std.specs.Prelude.{fold, option_and_then, Result}
 use Rattle.std.specs.Fmt as fmt
 use Rattle.std.specs.List.{list_all, flat_map}
 use Rattle.std.specs.Char.{is_ascii_digit}
@@ -13,9 +13,9 @@ use Rattle.hex.specs.declared.error.FromHexError.{FromHexError}
 use Rattle.hex.proofs.HexLemmas.{length-encode_with, decode_of-encode_upper, decode_sized-twice}
 use Rattle.usb_text.specs.Lines.{onto_first}
 use Rattle.usb_text.specs.Words.{all_words, words, before_comment, is_blank}
-use Rattle.usb_text.specs.Kinds.{number_of, is_address, byte_of, address_of, first_byte, bytes_of, packet_of}
+use Rattle.usb_text.specs.Kinds.{number_of, is_address, byte_of, address_of, first_byte}
 use Rattle.usb_text.specs.Print.{hex_pair}
-use Rattle.usb_text.specs.Written.{spaced, HasNoBlank, AreWords, AreBytes, packet_text}
+use Rattle.usb_text.specs.Written.{spaced, HasNoBlank, AreWords, AreBytes}
 use Rattle.usb_text.proofs.Known.{address_range}
 
 space-blank : is_blank 32 ≡ true
@@ -45,7 +45,7 @@ before_comment-words (word ∷ texts) h = simp h.0.no_comment (ap (λ xs. word �
 pub words-spaced : (texts : List (List ℕ)) → AreWords texts → words (spaced texts) ≡ texts
 words-spaced texts h = ap before_comment (all_words-spaced texts h) ∙ before_comment-words texts h
 
-own : IsNumeralModel (λ ds. list_all is_ascii_digit ds ≡ true) (λ ds. fold (λ n d. 10 * n + (d - 48)) 0 ds)
+pub own : IsNumeralModel (λ ds. list_all is_ascii_digit ds ≡ true) (λ ds. fold (λ n d. 10 * n + (d - 48)) 0 ds)
 own = numerals_by_fold _ (search rules) (λ n ds. fold (λ m d. 10 * m + (d - 48)) n ds) (search rules)
 
 pub number_of-decimal : (n : ℕ) → n < 10 ^ 9 → number_of (fmt.decimal n) ≡ Some n
@@ -65,7 +65,7 @@ hex_pair-encode_upper : (b : ℕ) → hex_pair b ≡ encode_upper (b ∷ [])
 unfolding encode_with
 hex_pair-encode_upper b = refl
 
-pairs-encode_upper : (bytes : List ℕ) → flat_map hex_pair bytes ≡ encode_upper bytes
+pub pairs-encode_upper : (bytes : List ℕ) → flat_map hex_pair bytes ≡ encode_upper bytes
 unfolding encode_with
 pairs-encode_upper [] = refl
 pairs-encode_upper (b ∷ bytes) = ap (λ rest. hex_pair b ++ rest) (pairs-encode_upper bytes)
@@ -81,13 +81,7 @@ address_of-hex_pair a valid =
     let read = ap byte_of (hex_pair-encode_upper a) ∙ byte_of-encode_upper a small in
     ap (option_and_then (λ b. cond (is_address b) (Some b) None)) read ∙ ap (λ t. cond t (Some a) None) valid
 
-at_most : (bytes : List ℕ) → AreBytes bytes → (i : ℕ) → get_or bytes i 0 < 256
+pub at_most : (bytes : List ℕ) → AreBytes bytes → (i : ℕ) → get_or bytes i 0 < 256
 at_most [] h i = lit< tt
 at_most (b ∷ bytes) h zero = h 0 0 (omega arith)
 at_most (b ∷ bytes) h (suc i) = at_most bytes (λ k d l. h (suc k) d (omega arith)) i
-
-pub packet_of-packet_text : (bytes : List ℕ) → AreBytes bytes → length bytes ≤ 1024 → packet_of (packet_text bytes) ≡ Some bytes
-packet_of-packet_text bytes h few =
-    let read = ap (λ digits. bytes_of 1024 digits) (pairs-encode_upper bytes)
-    ∙ ap (λ (r : Result (List ℕ) FromHexError). option_and_then (λ bs. cond (nat_le (length bs) 1024) (Some bs) None) (result_ok r)) (decode_of-encode_upper bytes (at_most bytes h)) in
-    read ∙ ap (λ t. cond t (Some bytes) None) (le-leb (length bytes) 1024 few)

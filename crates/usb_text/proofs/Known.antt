@@ -1,13 +1,10 @@
 -- What is known of a word of its kind.
-use Rattle.std.proofs.Common.{◌≡◌, ℕ, ◌+◌, ◌≤◌, Bool, true, false, cond, eqb, List, [], ◌∷◌, length, suc, lit≤, Some, None, refl, sym, ap, ◌∙◌, arith, inl, inr, take, drop}
-use Rattle.std.specs.Prelude.{nat_le, ◌&&◌, codes}
-use Rattle.std.specs.Result.{result_ok}
-use Rattle.std.specs.Str.{bytes_eq}
+use Rattle.std.proofs.Common.{◌≡◌, ℕ, ◌+◌, ◌≤◌, Bool, true, false, cond, eqb, List, [], ◌∷◌, length, suc, lit≤, Some, None, refl, sym, ap, ◌∙◌, arith, inl, inr}
+use Rattle.std.specs.Prelude.{nat_le, ◌&&◌}
 use Rattle.std.proofs.lemmas.Bool.{and_parts, or_cases, leb-true}
 use Rattle.std.proofs.lemmas.Option.{option_and_then_some}
-use Rattle.hex.specs.Hex.{decode_of}
 use Rattle.usb_text.specs.Lines.{onto_first, raw_lines}
-use Rattle.usb_text.specs.Kinds.{is_address, byte_of, address_of, packet_of, bytes_of}
+use Rattle.usb_text.specs.Kinds.{is_address, byte_of, address_of}
 
 -- what an `if` with nothing on one side gives
 pub some_if : {X : Type 0} (t : Bool) (x y : X) → cond t (Some x) None ≡ Some y → (t ≡ true) × (x ≡ y)
@@ -26,21 +23,6 @@ address_range a h =
 pub address_of-range : (text : List ℕ) (a : ℕ) → address_of text ≡ Some a → a ≤ 143
 address_of-range text a h =
     option_and_then_some _ (byte_of text) a h (λ b e g. let p = some_if (is_address b) b a g in address_range a (ap is_address (sym p.1) ∙ p.0))
-
-short_bytes : (most : ℕ) (digits bytes : List ℕ) → bytes_of most digits ≡ Some bytes → length bytes ≤ most
-short_bytes most digits bytes h =
-    option_and_then_some _ (result_ok (decode_of digits)) bytes h (λ b e g.
-    let p = some_if (nat_le (length b) most) b bytes g in
-    let same = ap (λ (x : List ℕ). length x) p.1 in
-    omega (arith, leb-true (length b) most p.0, same))
-
-packet_cases : (t : Bool) (digits bytes : List ℕ) → cond t (bytes_of 1024 digits) None ≡ Some bytes → length bytes ≤ 1024
-packet_cases true digits bytes h = short_bytes 1024 digits bytes h
-packet_cases false digits bytes h = cc
-
--- a packet has at most 1,024 bytes
-pub short_packet : (text bytes : List ℕ) → packet_of text ≡ Some bytes → length bytes ≤ 1024
-short_packet text bytes h = packet_cases (bytes_eq (take 2 text) (codes "p:")) (drop 2 text) bytes h
 
 length-onto_first : (b : ℕ) (pieces : List (List ℕ)) → length (onto_first b pieces) ≤ length pieces + 1
 length-onto_first b [] = lit≤ tt

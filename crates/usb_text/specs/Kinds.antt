@@ -1,10 +1,9 @@
 -- The kinds of word.
-use Rattle.std.specs.Prelude.{ℕ, ◌-◌, ◌+◌, ◌*◌, Bool, ◌||◌, ◌&&◌, ◌==◌, nat_le, if◌then◌else◌, List, [], ◌∷◌, length, take, drop, Option, Some, None, option_and_then, codes, fold, slice_index}
+use Rattle.std.specs.Prelude.{ℕ, ◌-◌, ◌+◌, ◌*◌, Bool, ◌||◌, ◌&&◌, ◌==◌, nat_le, if◌then◌else◌, List, [], ◌∷◌, length, Option, Some, None, option_and_then, fold, slice_index}
 use Rattle.std.specs.List.{list_all}
 use Rattle.std.specs.Char.{is_ascii_digit, is_ascii_lowercase}
 use Rattle.std.specs.Result.{result_ok}
-use Rattle.std.specs.Str.{bytes_eq}
-use Rattle.hex.specs.Hex.{decode_of, decode_sized}
+use Rattle.hex.specs.Hex.{decode_sized}
 
 -- the value of decimal digits
 abbrev pub digits_value : List ℕ → ℕ
@@ -40,11 +39,3 @@ is_address b = nat_le b 15 || (nat_le 129 b && nat_le b 143)
 -- ADDR: the address of an endpoint
 abbrev pub address_of : List ℕ → Option ℕ
 address_of word = option_and_then (λ b. if is_address b then Some b else None) (byte_of word)
-
--- at most this many bytes as hexadecimal digits
-abbrev pub bytes_of : ℕ → List ℕ → Option (List ℕ)
-bytes_of most digits = option_and_then (λ bytes. if nat_le (length bytes) most then Some bytes else None) (result_ok (decode_of digits))
-
--- a packet of at most 1,024 bytes: `p:` and their digits
-abbrev pub packet_of : List ℕ → Option (List ℕ)
-packet_of word = if bytes_eq (take 2 word) (codes "p:") then bytes_of 1024 (drop 2 word) else None

@@ -1,3 +1,4 @@
+pub mod Bytes
 pub mod Kinds
 pub mod Lines
 pub mod Print

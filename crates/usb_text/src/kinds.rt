@@ -2,7 +2,7 @@ ghost use Rattle.std.specs.Prelude.{◌≡◌, ◌≤◌, ◌^◌, ◌<◌, IfOk
 ghost use Rattle.std.specs.Str.{bytes_eq};
 ghost use Rattle.std.specs.List.{list_all};
 ghost use Rattle.std.specs.Char.{is_ascii_digit};
-ghost use Rattle.usb_text.specs.Kinds.{digits_value, number_of, is_name, is_name_byte, byte_of, address_of, bytes_of, packet_of};
+ghost use Rattle.usb_text.specs.Kinds.{digits_value, number_of, is_name, is_name_byte, byte_of, address_of};
 
 use std::alloc::Global;
 use usb_types::{Buf, Memory};
@@ -86,38 +86,10 @@ pub fn address(word: &[u8]) -> Option<u8>
     }
 }
 
-fn decoded(alloc: Global, most: usize, digits: &[u8]) -> Result<Option<Buf>, Memory>
-    ensures { IfOk result (λ bytes. bytes ≡ bytes_of most digits.now) }
-{
-    match hex::decode(alloc, digits) {
-        Ok(bytes) => {
-            if bytes.len() <= most {
-                Ok(Some(Buf::of(bytes)))
-            } else {
-                Ok(None)
-            }
-        }
-        Err(hex::FromHexError::OutOfMemory) => Err(Memory),
-        Err(_) => Ok(None),
-    }
-}
-
 // The first bytes of a word, at most two, and the others.
-fn split_two(word: &[u8]) -> (&[u8], &[u8])
+pub fn split_two(word: &[u8]) -> (&[u8], &[u8])
     ensures front { result.0.now ≡ take 2 word.now }
     ensures back { result.1.now ≡ drop 2 word.now }
 {
     word.split_at(word.len().min(2))
-}
-
-/// The bytes of a packet, which has at most 1,024: `p:` and their hexadecimal digits.
-pub fn packet(alloc: Global, word: &[u8]) -> Result<Option<Buf>, Memory>
-    ensures { IfOk result (λ bytes. bytes ≡ packet_of word.now) }
-{
-    let (front, digits) = split_two(word);
-    if is_text(front, "p:") {
-        decoded(alloc, 1024, digits)
-    } else {
-        Ok(None)
-    }
 }

@@ -1,7 +1,9 @@
+//! What is printed is read again.
 ghost use Rattle.std.specs.Prelude.{◌≡◌, ◌<◌, ◌≤◌, ◌^◌, ℕ, List, Some, length, decimal, IsTrue};
 ghost use Rattle.usb_text.specs.Words.{words};
-ghost use Rattle.usb_text.specs.Kinds.{number_of, is_address, address_of, packet_of};
-ghost use Rattle.usb_text.specs.Print.{hex_pair};
+ghost use Rattle.usb_text.specs.Kinds.{number_of, is_address, address_of};
+ghost use Rattle.usb_text.specs.Bytes.{data_of, payload_of};
+ghost use Rattle.usb_text.specs.Print.{hex_pair, hex_text};
 ghost use Rattle.usb_text.specs.Written.{AreBytes, AreWords, packet_text, spaced};
 
 /// Words that are written with a space between two are read again.
@@ -21,5 +23,10 @@ pub fn address_reads_back()
 
 /// A packet that is written is read again.
 pub fn packet_reads_back()
-    ensures { (bytes : List ℕ) → AreBytes bytes → length bytes ≤ 1024 → packet_of (packet_text bytes) ≡ Some bytes }
+    ensures { (bytes : List ℕ) → AreBytes bytes → length bytes ≤ 1024 → payload_of (packet_text bytes) ≡ Some bytes }
+{}
+
+/// Bytes that are written as a word of data are read again.
+pub fn data_reads_back()
+    ensures { (bytes : List ℕ) → AreBytes bytes → data_of (hex_text bytes) ≡ Some bytes }
 {}

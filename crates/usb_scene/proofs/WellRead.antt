@@ -1,0 +1,106 @@
+-- Every scene that is read is well formed.
+use Rattle.std.proofs.Common.{◌≡◌, ℕ, ◌+◌, ◌<◌, ◌≤◌, ◌^◌, Bool, true, false, cond, List, [], ◌∷◌, length, Option, Some, None, Ok, Err, Result, refl, sym, ap, ◌∙◌, arith, subst, lit≤}
+use Rattle.std.proofs.lemmas.List.Elements.{All-nil}
+use Rattle.usb_text.specs.Lines.{raw_lines, without_return}
+use Rattle.usb_text.proofs.Known.{length-raw_lines}
+use Rattle.usb_scene.specs.declared.scene.Scene.{Scene}
+use Rattle.usb_scene.specs.declared.scene.SceneThread.{SceneThread}
+use Rattle.usb_statement.specs.declared.statement.Statement.{Statement}
+use Rattle.usb_statement.specs.declared.keyword.Keyword.{Keyword}
+use Rattle.usb_scene.specs.declared.cause.Cause.{Cause}
+use Rattle.usb_scene.specs.declared.cause.Cause.TheVariants as cause
+use Rattle.usb_scene.specs.WellFormed.{IsUrb, IsThread, IsWellFormed}
+use Rattle.usb_statement.specs.Statements.{keyword_of, keyword_said, statement_of}
+use Rattle.usb_scene.specs.Rules.{may_stand, statement_cause}
+use Rattle.usb_scene.specs.Growth.{scene_with, empty_scene}
+use Rattle.usb_scene.specs.Counts.{AreFair}
+use Rattle.usb_statement.specs.Sayable.{IsSayable}
+use Rattle.usb_scene.specs.Read.{Reading, allowed, formed, in_place, is_header, grown, line_words, plain_read, ended, then_on, lines_read, scene_of}
+use Rattle.usb_scene.proofs.Placed.{place_said}
+use Rattle.usb_scene.proofs.Allowed.{IsAllowed, allowed_said}
+use Rattle.usb_statement.proofs.SaidLines.{said_sayable}
+use Rattle.usb_scene.proofs.Sound.{IsSound, sound_with}
+
+abbrev IsGood : Reading → Type 0
+IsGood None = Unit {0}
+IsGood (Some scene) = IsSound scene
+
+-- what is known of a statement that stands on a good line
+record IsPlaced (scene : Scene) (said : Statement) : Type 0 where
+  place : may_stand scene (keyword_said said) ≡ true
+  sayable : IsSayable said
+  allowed : IsAllowed scene said
+
+if_ok : {X : Type 0} (t : Bool) (x : Result X Cause) (c : Cause) (y : X) → cond t x (Err c) ≡ Ok y → (t ≡ true) × (x ≡ Ok y)
+if_ok true x c y h = (refl, h)
+if_ok false x c y h = cc
+
+allowed_ok : (x : Statement) (o : Option Cause) (y : Statement) → allowed x o ≡ Ok y → (o ≡ None) × (x ≡ y)
+allowed_ok x None y h = (refl, cc)
+allowed_ok x (Some c) y h = cc
+
+formed_ok : (scene : Scene) (o : Option Statement) (y : Statement) → formed scene o ≡ Ok y → (o ≡ Some y) × (statement_cause scene y ≡ None)
+formed_ok scene None y h = cc
+formed_ok scene (Some x) y h =
+    let p = allowed_ok x (statement_cause scene x) y h in
+    (ap Some p.1, ap (statement_cause scene) (sym p.1) ∙ p.0)
+
+placed : (scene : Scene) (o : Option Keyword) (rest : List (List ℕ)) (said : Statement) → in_place scene o rest ≡ Ok said → IsPlaced scene said
+placed scene None rest said h = cc
+placed scene (Some k) rest said h =
+    let a = if_ok (may_stand scene k) (formed scene (statement_of k rest)) cause.Word said h in
+    let b = formed_ok scene (statement_of k rest) said a.1 in
+    record { place = place_said scene k rest said a.0 b.0; sayable = said_sayable k rest said b.0; allowed = allowed_said scene said b.1 }
+
+empty_good : IsSound empty_scene
+empty_good = record {
+  formed = record {
+    few_devices = lit≤ tt;
+    few_urbs = lit≤ tt;
+    few_threads = lit≤ tt;
+    devices = λ d device e. cc;
+    urbs = All-nil (IsUrb empty_scene);
+    threads = All-nil (IsThread empty_scene);
+    names = λ i j a b e g same. cc;
+  };
+  fair = All-nil (λ (t : SceneThread). AreFair t.calls);
+}
+
+is_good : (a b : Reading) → IsGood a → a ≡ b → IsGood b
+is_good a b h e = subst IsGood e h
+
+grown_good : (scene : Scene) (n : ℕ) (read : Result Statement Cause) (next : Reading) → IsSound scene → n < 2 ^ 31
+    → ((said : Statement) → read ≡ Ok said → IsPlaced scene said) → grown scene n read ≡ Ok next → IsGood next
+grown_good scene n (Err c) next good low placed h = cc
+grown_good scene n (Ok said) next good low placed h =
+    let p = placed said refl in
+    is_good (Some (scene_with scene n said)) next (sound_with scene n said good p.place p.sayable p.allowed low) (cc)
+
+line_good : (reading : Reading) (n : ℕ) (texts : Option (List (List ℕ))) (next : Reading) → IsGood reading → n < 2 ^ 31 → plain_read reading n texts ≡ Ok next → IsGood next
+line_good reading n None next good low h = cc
+line_good reading n (Some []) next good low h = is_good reading next good (cc)
+line_good None n (Some (first ∷ rest)) next good low h =
+    let a = if_ok (is_header (first ∷ rest)) (Ok (Some empty_scene)) cause.Header next h in
+    is_good (Some empty_scene) next empty_good (let e = a.1 in cc)
+line_good (Some scene) n (Some (first ∷ rest)) next good low h =
+    grown_good scene n (in_place scene (keyword_of first) rest) next good low (placed scene (keyword_of first) rest) h
+
+ended_good : (reading : Reading) (n : ℕ) (scene : Scene) → IsGood reading → ended reading n ≡ Ok scene → IsWellFormed scene
+ended_good None n scene good h = cc
+ended_good (Some s) n scene good h = let e : s ≡ scene = cc in subst IsWellFormed e good.formed
+
+then_good : (n : ℕ) (texts : List (List ℕ)) (read : Result Reading Cause) (scene : Scene)
+    → ((next : Reading) → read ≡ Ok next → lines_read next n texts ≡ Ok scene → IsWellFormed scene)
+    → then_on (λ next. lines_read next n texts) n read ≡ Ok scene → IsWellFormed scene
+then_good n texts (Err c) scene on h = cc
+then_good n texts (Ok next) scene on h = on next refl h
+
+lines_good : (reading : Reading) (n : ℕ) (texts : List (List ℕ)) (scene : Scene) → IsGood reading → n + length texts < 2 ^ 31 → lines_read reading n texts ≡ Ok scene → IsWellFormed scene
+lines_good reading n [] scene good low h = ended_good reading n scene good h
+lines_good reading n (text ∷ texts) scene good low h =
+    then_good (n + 1) texts (plain_read reading (n + 1) (line_words (without_return text))) scene
+    (λ next e g. lines_good next (n + 1) texts scene (line_good reading (n + 1) (line_words (without_return text)) next good (omega arith) e) (omega arith) g) h
+
+pub scene_of-IsWellFormed : (bytes : List ℕ) (scene : Scene) → length bytes ≤ 1048576 → scene_of bytes ≡ Ok scene → IsWellFormed scene
+scene_of-IsWellFormed bytes scene few h =
+    lines_good None 0 (raw_lines bytes) scene tt (omega (arith, length-raw_lines bytes)) h

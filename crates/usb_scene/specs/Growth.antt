@@ -1,0 +1,124 @@
+-- What a line adds to the scene.
+use Rattle.std.specs.Prelude.{ℕ, ◌-◌, ◌==◌, if◌then◌else◌, List, [], ◌∷◌, ◌++◌, length, Option, None, unwrap_or}
+use Rattle.std.specs.List.{list_any}
+use Rattle.usb_machine.specs.declared.layout.EndKind.{EndKind}
+use Rattle.usb_machine.specs.declared.layout.Shape.{Shape}
+use Rattle.usb_xfer.specs.declared.script.Answers.{Answers}
+use Rattle.usb_xfer.specs.declared.script.Kind.TheVariants.{Raw}
+use Rattle.usb_scene.specs.declared.scene.Scene.{Scene}
+use Rattle.usb_scene.specs.declared.scene.SceneDevice.{SceneDevice}
+use Rattle.usb_scene.specs.declared.scene.SceneUrb.{SceneUrb}
+use Rattle.usb_scene.specs.declared.scene.SceneThread.{SceneThread}
+use Rattle.usb_scene.specs.declared.scene.Call.{Call}
+use Rattle.usb_scene.specs.declared.scene.Target.{Target}
+use Rattle.usb_scene.specs.declared.scene.Target.TheVariants as target
+use Rattle.usb_statement.specs.declared.statement.Statement.{Statement}
+use Rattle.usb_statement.specs.declared.statement.Statement.TheVariants as say
+use Rattle.usb_statement.specs.declared.options.UrbOption.{UrbOption}
+use Rattle.usb_statement.specs.declared.urb_name.UrbName.{UrbName}
+use Rattle.usb_statement.specs.declared.keyword.UrbCall.{UrbCall}
+use Rattle.usb_statement.specs.declared.keyword.UrbCall.TheVariants as on
+use Rattle.usb_statement.specs.declared.keyword.BareCall.{BareCall}
+use Rattle.usb_statement.specs.declared.keyword.BareCall.TheVariants as bare
+use Rattle.usb_scene.specs.Rules.{device_number, named_urb, is_short, len_in, again_in, replies_of}
+
+-- a scene of version 1 with nothing in it
+abbrev pub empty_scene : Scene
+empty_scene = record { version = 1; devices = []; urbs = []; anchors = []; threads = [] }
+
+-- f of the last item
+abbrev pub on_last : {X : Type 0} → (X → X) → List X → List X
+on_last f [] = []
+on_last f (x ∷ []) = f x ∷ []
+on_last f (x ∷ y ∷ xs) = x ∷ on_last f (y ∷ xs)
+
+-- a raw device without endpoints or answers
+abbrev pub bare_device : List ℕ → SceneDevice
+bare_device name =
+    record { name = name; script = record { kind = Raw; ends = []; desc = None; config = None; answers = []; id = None; port = 24 } }
+
+-- an endpoint of the device whose lines are being read
+abbrev pub end_said : Scene → ℕ → EndKind → ℕ → ℕ → Shape
+end_said scene address kind size interval =
+    record { device = length scene.devices - 1; address = address; kind = kind; max = size; interval = interval }
+
+abbrev pub with_end : Shape → SceneDevice → SceneDevice
+with_end shape device = record device { script = record device.script { ends = device.script.ends ++ shape ∷ [] } }
+
+-- one list of two of one address
+abbrev pub together : Answers → Answers → Answers
+together first next = record first { items = first.items ++ next.items }
+
+-- answers behind others, in one list with the last where they are of one address
+abbrev pub joined : Answers → List Answers → List Answers
+joined said [] = said ∷ []
+joined said (last ∷ []) = if last.address == said.address then together last said ∷ [] else last ∷ said ∷ []
+joined said (first ∷ next ∷ others) = first ∷ joined said (next ∷ others)
+
+abbrev pub with_answers : Answers → SceneDevice → SceneDevice
+with_answers said device = record device { script = record device.script { answers = joined said device.script.answers } }
+
+abbrev pub urb_said : Scene → List ℕ → List ℕ → ℕ → List UrbOption → SceneUrb
+urb_said scene name device address options = record {
+  name = name;
+  device = unwrap_or (device_number scene device) 0;
+  address = address;
+  len = len_in options;
+  again = again_in options;
+  short = list_any is_short options;
+}
+
+-- a call with one target and no numbers
+abbrev pub plain_call : ℕ → ℕ → Target → Option (List ℕ) → Call
+plain_call line code target bytes =
+    record { line = line; code = code; target = target; second = None; numbers = 0 ∷ 0 ∷ 0 ∷ 0 ∷ []; setup = None; bytes = bytes }
+
+-- the calls' numbers in the table of calls
+abbrev pub urb_call_code : UrbCall → ℕ
+urb_call_code on.Unlink = 2
+urb_call_code on.Kill = 3
+urb_call_code on.Poison = 4
+urb_call_code on.Unpoison = 5
+urb_call_code on.Block = 6
+urb_call_code on.Unblock = 7
+
+abbrev pub bare_call_code : BareCall → ℕ
+bare_call_code bare.Serve = 8
+bare_call_code bare.Down = 21
+bare_call_code bare.Up = 22
+
+abbrev pub urb_target : Scene → UrbName → Target
+urb_target scene urb = target.Urb (unwrap_or (named_urb scene urb) 0)
+
+abbrev pub with_call : Call → SceneThread → SceneThread
+with_call call thread = record thread { calls = thread.calls ++ call ∷ [] }
+
+-- a call more in the script that is being read
+abbrev pub scene_calls : Scene → Call → Scene
+scene_calls scene call = record scene { threads = on_last (with_call call) scene.threads }
+
+-- the scene with what the line adds to it
+abbrev pub scene_with : Scene → ℕ → Statement → Scene
+scene_with scene line (say.Device name) = record scene { devices = scene.devices ++ bare_device name ∷ [] }
+scene_with scene line (say.Ep address kind size interval) =
+    record scene { devices = on_last (with_end (end_said scene address kind size interval)) scene.devices }
+scene_with scene line (say.Answer address items) =
+    record scene { devices = on_last (with_answers (record { address = address; items = items })) scene.devices }
+scene_with scene line (say.Urb name device address options) =
+    record scene { urbs = scene.urbs ++ urb_said scene name device address options ∷ [] }
+scene_with scene line (say.Thread name) =
+    record scene { threads = scene.threads ++ record { name = name; calls = [] } ∷ [] }
+scene_with scene line (say.Submit urb bytes) = scene_calls scene (plain_call line 1 (urb_target scene urb) bytes)
+scene_with scene line (say.OnUrb call urb) = scene_calls scene (plain_call line (urb_call_code call) (urb_target scene urb) None)
+scene_with scene line (say.Alone call) = scene_calls scene (plain_call line (bare_call_code call) target.Nothing None)
+
+-- how many answers and calls a line adds
+abbrev pub replies_said : Statement → ℕ
+replies_said (say.Answer address items) = replies_of items
+replies_said _ = 0
+
+abbrev pub calls_said : Statement → ℕ
+calls_said (say.Submit urb bytes) = 1
+calls_said (say.OnUrb call urb) = 1
+calls_said (say.Alone call) = 1
+calls_said _ = 0

@@ -1,0 +1,204 @@
+-- Where a line may stand, what it must name, what it must not repeat, its limits, and its rules on rejects and the hub.
+use Rattle.std.specs.Prelude.{ℕ, ◌+◌, ◌-◌, Bool, true, false, ◌&&◌, not, ◌==◌, nat_le, nat_lt, if◌then◌else◌, List, [], ◌∷◌, length, Option, Some, None, is_some, position, unwrap_or, slice_get, sum_by, count_by, codes}
+use Rattle.std.specs.List.{list_any}
+use Rattle.std.specs.Str.{bytes_eq}
+use Rattle.usb_machine.specs.declared.layout.Shape.{Shape}
+use Rattle.usb_xfer.specs.declared.script.Answers.{Answers}
+use Rattle.usb_xfer.specs.declared.script.Item.{Item}
+use Rattle.usb_scene.specs.declared.scene.Scene.{Scene}
+use Rattle.usb_scene.specs.declared.scene.SceneDevice.{SceneDevice}
+use Rattle.usb_scene.specs.declared.scene.SceneUrb.{SceneUrb}
+use Rattle.usb_scene.specs.declared.scene.SceneThread.{SceneThread}
+use Rattle.usb_scene.specs.declared.scene.Call.{Call}
+use Rattle.usb_statement.specs.declared.statement.Statement.{Statement}
+use Rattle.usb_statement.specs.declared.statement.Statement.TheVariants as say
+use Rattle.usb_statement.specs.declared.keyword.Keyword.{Keyword}
+use Rattle.usb_statement.specs.declared.keyword.Keyword.TheVariants as word
+use Rattle.usb_statement.specs.declared.options.UrbOption.{UrbOption}
+use Rattle.usb_statement.specs.declared.options.UrbOption.TheVariants.{Len, Again, Short}
+use Rattle.usb_statement.specs.declared.urb_name.UrbName.{UrbName}
+use Rattle.usb_statement.specs.declared.urb_name.UrbName.TheVariants.{Scripted, Driver}
+use Rattle.usb_statement.specs.declared.keyword.UrbCall.{UrbCall}
+use Rattle.usb_statement.specs.declared.keyword.UrbCall.TheVariants as on
+use Rattle.usb_statement.specs.declared.keyword.BareCall.TheVariants as bare
+use Rattle.usb_scene.specs.declared.cause.Cause.{Cause}
+use Rattle.usb_scene.specs.declared.cause.Cause.TheVariants as cause
+use Rattle.usb_statement.specs.Statements.{is_empty}
+use Rattle.usb_scene.specs.WellFormed.{held_on}
+
+-- no URB is declared yet, and no thread
+abbrev pub in_devices : Scene → Bool
+in_devices scene = is_empty scene.urbs && is_empty scene.threads
+
+-- Devices come first, each with its own lines, then URBs, then threads with their calls.
+abbrev pub may_stand : Scene → Keyword → Bool
+may_stand scene word.Device = in_devices scene
+may_stand scene word.Ep = not (is_empty scene.devices) && in_devices scene
+may_stand scene word.Answer = not (is_empty scene.devices) && in_devices scene
+may_stand scene word.Urb = is_empty scene.threads
+may_stand scene word.Thread = true
+may_stand scene _ = not (is_empty scene.threads)
+
+-- the number of a declared name
+abbrev pub device_number : Scene → List ℕ → Option ℕ
+device_number scene name = position (λ (d : SceneDevice). bytes_eq d.name name) scene.devices
+
+abbrev pub urb_number : Scene → List ℕ → Option ℕ
+urb_number scene name = position (λ (u : SceneUrb). bytes_eq u.name name) scene.urbs
+
+abbrev pub thread_number : Scene → List ℕ → Option ℕ
+thread_number scene name = position (λ (t : SceneThread). bytes_eq t.name name) scene.threads
+
+-- the number of the URB that a call names, a scripted one
+abbrev pub named_urb : Scene → UrbName → Option ℕ
+named_urb scene (Scripted name) = urb_number scene name
+named_urb scene (Driver device number role) = None
+
+-- the endpoints of a device, if there is one
+abbrev pub ends_of : Option SceneDevice → List Shape
+ends_of None = []
+ends_of (Some device) = device.script.ends
+
+-- whether a device has an endpoint with this address
+abbrev pub has_end : Option SceneDevice → ℕ → Bool
+has_end device address = list_any (λ (e : Shape). e.address == address) (ends_of device)
+
+-- the device whose lines are being read
+abbrev pub last_device : Scene → Option SceneDevice
+last_device scene = slice_get scene.devices (length scene.devices - 1)
+
+-- the device with this number, if there is one
+abbrev pub numbered_device : Scene → Option ℕ → Option SceneDevice
+numbered_device scene None = None
+numbered_device scene (Some number) = slice_get scene.devices number
+
+-- each name and address that the line takes as declared is so
+abbrev pub names_stand : Scene → Statement → Bool
+names_stand scene (say.Answer address items) = has_end (last_device scene) address
+names_stand scene (say.Urb name device address options) = has_end (numbered_device scene (device_number scene device)) address
+names_stand scene (say.Submit urb bytes) = is_some (named_urb scene urb)
+names_stand scene (say.OnUrb call urb) = is_some (named_urb scene urb)
+names_stand scene _ = true
+
+abbrev pub is_len : UrbOption → Bool
+is_len (Len n) = true
+is_len _ = false
+
+abbrev pub is_again : UrbOption → Bool
+is_again (Again n) = true
+is_again _ = false
+
+abbrev pub is_short : UrbOption → Bool
+is_short Short = true
+is_short _ = false
+
+-- each option stands at most once
+abbrev pub are_once : List UrbOption → Bool
+are_once options = nat_le (count_by is_len options) 1 && nat_le (count_by is_again options) 1 && nat_le (count_by is_short options) 1
+
+-- what the line declares was not declared before, and no option is repeated
+abbrev pub is_new : Scene → Statement → Bool
+is_new scene (say.Device name) = not (is_some (device_number scene name))
+is_new scene (say.Ep address kind size interval) = not (has_end (last_device scene) address)
+is_new scene (say.Urb name device address options) = not (is_some (urb_number scene name)) && are_once options
+is_new scene (say.Thread name) = not (is_some (thread_number scene name)) && not (bytes_eq name (codes "server"))
+is_new scene _ = true
+
+-- the numbers that options give, 0 where they give none
+abbrev pub len_in : List UrbOption → ℕ
+len_in [] = 0
+len_in (Len n ∷ options) = n
+len_in (_ ∷ options) = len_in options
+
+abbrev pub again_in : List UrbOption → ℕ
+again_in [] = 0
+again_in (Again n ∷ options) = n
+again_in (_ ∷ options) = again_in options
+
+-- how many answers these items give
+abbrev pub replies_of : List Item → ℕ
+replies_of items = sum_by (λ (item : Item). item.times) items
+
+abbrev pub replies_in : SceneDevice → ℕ
+replies_in device = sum_by (λ (said : Answers). replies_of said.items) device.script.answers
+
+-- how many answers the items of a scene give, in all
+abbrev pub all_replies : Scene → ℕ
+all_replies scene = sum_by replies_in scene.devices
+
+abbrev pub calls_in : SceneThread → ℕ
+calls_in thread = length thread.calls
+
+-- how many calls the scripts of a scene have, in all
+abbrev pub all_calls : Scene → ℕ
+all_calls scene = sum_by calls_in scene.threads
+
+-- the thread whose calls are being read
+abbrev pub last_thread : Scene → Option SceneThread
+last_thread scene = slice_get scene.threads (length scene.threads - 1)
+
+abbrev pub calls_of : Option SceneThread → List Call
+calls_of None = []
+calls_of (Some thread) = thread.calls
+
+-- how many rejects the script that is being read holds on the URB that a call names
+abbrev pub held_now : Scene → UrbName → ℕ
+held_now scene urb = held_on (unwrap_or (named_urb scene urb) 0) (calls_of (last_thread scene))
+
+-- the calls that raise a reject, and those that withdraw one
+abbrev pub raises : UrbCall → Bool
+raises on.Poison = true
+raises on.Block = true
+raises _ = false
+
+abbrev pub withdraws : UrbCall → Bool
+withdraws on.Unpoison = true
+withdraws on.Unblock = true
+withdraws _ = false
+
+-- how many bytes are given
+abbrev pub given_len : Option (List ℕ) → ℕ
+given_len None = 0
+given_len (Some bytes) = length bytes
+
+-- one call more may stand in the scripts
+abbrev pub has_call_left : Scene → Bool
+has_call_left scene = nat_lt (all_calls scene) 4096
+
+-- the line passes no limit
+abbrev pub is_within : Scene → Statement → Bool
+is_within scene (say.Device name) = nat_lt (length scene.devices) 16
+is_within scene (say.Ep address kind size interval) = nat_le size 1024 && nat_le interval 255
+is_within scene (say.Answer address items) = nat_le (all_replies scene + replies_of items) 65536
+is_within scene (say.Urb name device address options) =
+    nat_le (len_in options) 16384 && nat_le (again_in options) 63 && nat_lt (length scene.urbs) 256
+is_within scene (say.Thread name) = nat_lt (length scene.threads) 16
+is_within scene (say.Submit urb bytes) = has_call_left scene && nat_le (given_len bytes) 16384
+is_within scene (say.OnUrb call urb) = has_call_left scene && (if raises call then nat_lt (held_now scene urb) 100 else true)
+is_within scene (say.Alone call) = has_call_left scene
+
+-- a reject that is withdrawn is one that this script holds
+abbrev pub holds_reject : Scene → Statement → Bool
+holds_reject scene (say.OnUrb call urb) = if withdraws call then nat_lt 0 (held_now scene urb) else true
+holds_reject scene _ = true
+
+-- whether a thread's name is `hub`
+abbrev pub is_hub : Option SceneThread → Bool
+is_hub None = false
+is_hub (Some thread) = bytes_eq thread.name (codes "hub")
+
+-- a call of the hub stands in the hub's thread
+abbrev pub may_call : Scene → Statement → Bool
+may_call scene (say.Alone bare.Down) = is_hub (last_thread scene)
+may_call scene (say.Alone bare.Up) = is_hub (last_thread scene)
+may_call scene _ = true
+
+-- the first cause against what a line says, if there is one
+abbrev pub statement_cause : Scene → Statement → Option Cause
+statement_cause scene statement =
+    if not (names_stand scene statement) then Some cause.Name
+    else if not (is_new scene statement) then Some cause.Twice
+    else if not (is_within scene statement) then Some cause.Limit
+    else if not (holds_reject scene statement) then Some cause.Held
+    else if not (may_call scene statement) then Some cause.HubOnly
+    else None

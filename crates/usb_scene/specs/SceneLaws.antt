@@ -1,0 +1,57 @@
+-- What reading means, apart from how it goes on from line to line, and the text of a scene's lines.
+use Rattle.std.specs.Prelude.{◌≡◌, ℕ, ◌+◌, true, List, [], ◌∷◌, ◌++◌, length, max, codes, None, Result, Ok, Err}
+use Rattle.std.specs.List.{list_all, flat_map}
+use Rattle.usb_text.specs.Lines.{raw_lines, without_return, is_plain}
+use Rattle.usb_text.specs.Written.{AreWords, spaced}
+use Rattle.usb_scene.specs.declared.scene.Scene.{Scene}
+use Rattle.usb_statement.specs.declared.statement.Statement.{Statement}
+use Rattle.usb_scene.specs.declared.cause.Cause.{Cause}
+use Rattle.usb_scene.specs.declared.cause.Cause.TheVariants as cause
+use Rattle.usb_statement.specs.Statements.{keyword_of}
+use Rattle.usb_scene.specs.Growth.{scene_with}
+use Rattle.usb_scene.specs.Read.{Reading, plain_read, line_words, in_place}
+
+-- each of these lines, the first of them with the number after n, is good after those before it
+abbrev pub AreGood : Reading → ℕ → List (List ℕ) → Reading → Type 0
+AreGood reading n [] last = reading ≡ last
+AreGood reading n (text ∷ texts) last =
+    (next : Reading) × (plain_read reading (n + 1) (line_words (without_return text)) ≡ Ok next) × AreGood next (n + 1) texts last
+
+-- all lines before line n are good, and there is this cause against line n
+pub record IsFirstBad (bytes : List ℕ) (n : ℕ) (c : Cause) : Type 0 where
+  pub before : List (List ℕ)
+  pub text : List ℕ
+  pub behind : List (List ℕ)
+  pub reading : Reading
+  pub split : raw_lines bytes ≡ before ++ text ∷ behind
+  pub number : n ≡ length before + 1
+  pub good : AreGood None 0 before reading
+  pub bad : plain_read reading n (line_words (without_return text)) ≡ Err c
+
+-- all lines are good, and none of them has words
+pub record LacksHeader (bytes : List ℕ) (n : ℕ) : Type 0 where
+  pub good : AreGood None 0 (raw_lines bytes) None
+  pub number : n ≡ max (length (raw_lines bytes)) 1
+
+-- a line of words, and what it says
+abbrev pub Said : Type 0
+Said = List (List ℕ) × Statement
+
+-- what words say where the scene is so far, against which there is no cause
+abbrev pub said_by : Scene → List (List ℕ) → Result Statement Cause
+said_by scene [] = Err cause.Form
+said_by scene (first ∷ rest) = in_place scene (keyword_of first) rest
+
+pub record IsSaid (scene : Scene) (line : Said) : Type 0 where
+  pub texts : AreWords line.0
+  pub plain : list_all is_plain (spaced line.0) ≡ true
+  pub says : said_by scene line.0 ≡ Ok line.1
+
+-- lines behind line n say this, one after another, and make this of the scene
+abbrev pub SaidInTurn : Scene → ℕ → List Said → Scene → Type 0
+SaidInTurn scene n [] last = scene ≡ last
+SaidInTurn scene n (line ∷ lines) last = IsSaid scene line × SaidInTurn (scene_with scene (n + 1) line.1) (n + 1) lines last
+
+-- the text of some lines, behind the header
+abbrev pub text_of : List Said → List ℕ
+text_of lines = codes "scene 1\n" ++ flat_map (λ line. spaced line.0 ++ 10 ∷ []) lines

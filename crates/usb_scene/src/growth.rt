@@ -1,0 +1,246 @@
+//! What a line adds to the scene.
+ghost use Rattle.std.specs.Prelude.{◌≡◌, ◌≤◌, length, IsTrue, OnOk};
+ghost use Rattle.std.specs.List.{list_any};
+ghost use Rattle.usb_scene.specs.Rules.{is_within, is_short, len_in, again_in};
+ghost use Rattle.usb_scene.specs.Named.{called_urb};
+ghost use Rattle.usb_scene.specs.Growth.{bare_device, end_said, on_last, with_end, joined, with_answers, urb_said, plain_call, urb_call_code, bare_call_code, with_call, scene_with};
+
+use crate::rules::device_number;
+use crate::scene::{Call, Scene, SceneDevice, SceneThread, SceneUrb, Target};
+use std::alloc::Global;
+use usb_machine::{EndKind, Shape};
+use usb_statement::{BareCall, Statement, UrbCall, UrbOption};
+use usb_types::{Buf, List, Memory};
+use usb_xfer::{Answers, DeviceScript, Kind};
+
+const USUAL_PORT_STATUS: u8 = 0x18;
+
+fn bare_device(alloc: Global, name: Buf) -> SceneDevice
+    ensures { result ≡ bare_device name }
+{
+    let script = DeviceScript {
+        kind: Kind::Raw,
+        ends: List::of(Vec::new(alloc)),
+        desc: None,
+        config: None,
+        answers: List::of(Vec::new(alloc)),
+        id: None,
+        port: USUAL_PORT_STATUS,
+    };
+    SceneDevice { name, script }
+}
+
+fn end_said(scene: &Scene, address: u8, kind: EndKind, size: u32, interval: u32) -> Shape
+    requires devices { length scene.now.devices ≤ 16 }
+    requires size { size ≤ 1024 }
+    requires interval { interval ≤ 255 }
+    ensures { result ≡ end_said scene.now address kind size interval }
+{
+    Shape {
+        device: scene.devices.items().len().saturating_sub(1) as u32,
+        address,
+        kind,
+        max: size as u16,
+        interval: interval as u8,
+    }
+}
+
+#[tactic(auto, using(crate::proofs::Scenes::on_last_push))]
+fn add_end(devices: &mut List<SceneDevice>, end: Shape) -> Result<(), Memory>
+    ensures { OnOk result (devices.new ≡ on_last (with_end end) devices.old) }
+{
+    match devices.pop() {
+        Some(mut device) => {
+            device.script.ends.push(end)?;
+            devices.push(device)
+        }
+        None => Ok(()),
+    }
+}
+
+// Adds answers behind others, in one list with the last where they are of one address.
+#[tactic(auto, using(crate::proofs::Scenes::joined_push, crate::proofs::Scenes::joined_other))]
+fn join(answers: &mut List<Answers>, said: Answers) -> Result<(), Memory>
+    ensures { OnOk result (answers.new ≡ joined said answers.old) }
+{
+    match answers.pop() {
+        Some(mut last) => {
+            if last.address == said.address {
+                last.items.append(said.items)?;
+                answers.push(last)
+            } else {
+                answers.push(last)?;
+                answers.push(said)
+            }
+        }
+        None => answers.push(said),
+    }
+}
+
+#[tactic(auto, using(crate::proofs::Scenes::on_last_push))]
+fn add_answers(devices: &mut List<SceneDevice>, said: Answers) -> Result<(), Memory>
+    ensures { OnOk result (devices.new ≡ on_last (with_answers said) devices.old) }
+{
+    match devices.pop() {
+        Some(mut device) => {
+            join(&mut device.script.answers, said)?;
+            devices.push(device)
+        }
+        None => Ok(()),
+    }
+}
+
+/// The number that `len` gives, 0 where it is absent.
+pub fn len_in(options: &[UrbOption]) -> u32
+    ensures { result ≡ len_in options.now }
+{
+    for option in options {
+        if let UrbOption::Len(len) = option {
+            return *len;
+        }
+    }
+    0
+}
+
+/// The number that `again` gives, 0 where it is absent.
+pub fn again_in(options: &[UrbOption]) -> u32
+    ensures { result ≡ again_in options.now }
+{
+    for option in options {
+        if let UrbOption::Again(again) = option {
+            return *again;
+        }
+    }
+    0
+}
+
+fn has_short(options: &[UrbOption]) -> bool
+    ensures { result ≡ list_any is_short options.now }
+{
+    options
+        .iter()
+        .any(|option| matches!(option, UrbOption::Short))
+}
+
+fn urb_said(scene: &Scene, name: Buf, device: &[u8], address: u8, options: &[UrbOption]) -> SceneUrb
+    requires { length scene.now.devices ≤ 16 }
+    ensures { result ≡ urb_said scene.now name device.now address options.now }
+{
+    SceneUrb {
+        name,
+        device: device_number(scene, device).unwrap_or(0) as u32,
+        address,
+        len: len_in(options),
+        again: again_in(options),
+        short: has_short(options),
+    }
+}
+
+fn plain_call(line: u32, code: u32, target: Target, bytes: Option<Buf>) -> Call
+    ensures { result ≡ plain_call line code target bytes }
+{
+    Call {
+        line,
+        code,
+        target,
+        second: None,
+        numbers: [0; 4],
+        setup: None,
+        bytes,
+    }
+}
+
+fn urb_call_code(call: UrbCall) -> u32
+    ensures { result ≡ urb_call_code call }
+{
+    match call {
+        UrbCall::Unlink => 2,
+        UrbCall::Kill => 3,
+        UrbCall::Poison => 4,
+        UrbCall::Unpoison => 5,
+        UrbCall::Block => 6,
+        UrbCall::Unblock => 7,
+    }
+}
+
+fn bare_call_code(call: BareCall) -> u32
+    ensures { result ≡ bare_call_code call }
+{
+    match call {
+        BareCall::Serve => 8,
+        BareCall::Down => 21,
+        BareCall::Up => 22,
+    }
+}
+
+#[tactic(auto, using(crate::proofs::Scenes::on_last_push))]
+fn add_call(threads: &mut List<SceneThread>, call: Call) -> Result<(), Memory>
+    ensures { OnOk result (threads.new ≡ on_last (with_call call) threads.old) }
+{
+    match threads.pop() {
+        Some(mut thread) => {
+            thread.calls.push(call)?;
+            threads.push(thread)
+        }
+        None => Ok(()),
+    }
+}
+
+/// Adds to the scene what a line says, which calls this URB, if any.
+pub fn add(
+    scene: &mut Scene,
+    alloc: Global,
+    line: u32,
+    statement: Statement,
+    urb: u32,
+) -> Result<(), Memory>
+    requires devices { length scene.old.devices ≤ 16 }
+    requires within { IsTrue (is_within scene.old statement) }
+    requires called { urb ≡ called_urb scene.old statement }
+    ensures { OnOk result (scene.new ≡ scene_with scene.old line statement) }
+{
+    match statement {
+        Statement::Device { name } => scene.devices.push(bare_device(alloc, name)),
+        Statement::Ep {
+            address,
+            kind,
+            size,
+            interval,
+        } => {
+            let end = end_said(scene, address, kind, size, interval);
+            add_end(&mut scene.devices, end)
+        }
+        Statement::Answer { address, items } => {
+            add_answers(&mut scene.devices, Answers { address, items })
+        }
+        Statement::Urb {
+            name,
+            device,
+            address,
+            options,
+        } => {
+            let urb = urb_said(scene, name, device.bytes(), address, options.items());
+            scene.urbs.push(urb)
+        }
+        Statement::Thread { name } => {
+            let calls = List::of(Vec::new(alloc));
+            scene.threads.push(SceneThread { name, calls })
+        }
+        Statement::Submit { bytes, .. } => {
+            let target = Target::Urb(urb);
+            add_call(&mut scene.threads, plain_call(line, 1, target, bytes))
+        }
+        Statement::OnUrb { call, .. } => {
+            let target = Target::Urb(urb);
+            let code = urb_call_code(call);
+            add_call(&mut scene.threads, plain_call(line, code, target, None))
+        }
+        Statement::Alone { call } => {
+            let code = bare_call_code(call);
+            add_call(
+                &mut scene.threads,
+                plain_call(line, code, Target::Nothing, None),
+            )
+        }
+    }
+}

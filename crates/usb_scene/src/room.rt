@@ -1,0 +1,115 @@
+//! What is left of the limits behind a line, and what is counted and found there.
+ghost use Rattle.std.specs.Prelude.{◌≡◌, ℕ, List, ◌-◌, ◌≤◌, ◌&&◌, nat_le, if◌then◌else◌, IfOk, Some, None, length, slice_index};
+ghost use Rattle.usb_scene.specs.Rules.{replies_of, len_in, again_in, given_len};
+ghost use Rattle.usb_scene.specs.Growth.{replies_said, calls_said};
+ghost use Rattle.usb_scene.specs.Counts.{counts_with};
+ghost use Rattle.usb_scene.specs.Named.{number_in, found_with, called_urb};
+
+use crate::growth::{again_in, len_in};
+use crate::names::Names;
+use crate::rejects::Rejects;
+use crate::scene::Scene;
+use std::alloc::Global;
+use usb_statement::{Statement, UrbOption};
+use usb_types::{Buf, Memory};
+use usb_xfer::Item;
+
+const MOST_AGAIN: u32 = 63;
+// In bytes.
+const MOST_BUFFER: u32 = 16384;
+
+/// How many more replies may come behind those of these items.
+pub fn room_behind(items: &[Item], room: u32) -> Option<u32>
+    ensures { result ≡ (if nat_le (replies_of items.now) room then Some (room - replies_of items.now) else None) }
+{
+    let mut left = room;
+    for item in items {
+        if item.times > left {
+            return None;
+        }
+        left -= item.times;
+    }
+    Some(left)
+}
+
+/// How many replies the items behind a line may still give.
+pub fn replies_behind(statement: &Statement, room: u32) -> u32
+    ensures { result ≡ room - replies_said statement.now }
+{
+    match statement {
+        Statement::Answer { items, .. } => room_behind(items.items(), room).unwrap_or(0),
+        _ => room,
+    }
+}
+
+/// How many calls may still come behind a line.
+pub fn calls_behind(statement: &Statement, room: u32) -> u32
+    ensures { result ≡ room - calls_said statement.now }
+{
+    match statement {
+        Statement::Submit { .. } | Statement::OnUrb { .. } | Statement::Alone { .. } => {
+            room.saturating_sub(1)
+        }
+        _ => room,
+    }
+}
+
+/// Whether a buffer holds the bytes that are given.
+pub fn is_buffer(bytes: &Option<Buf>) -> bool
+    ensures { result ≡ nat_le (given_len bytes.now) 16384 }
+{
+    match bytes {
+        Some(bytes) => bytes.bytes().len() <= MOST_BUFFER as usize,
+        None => true,
+    }
+}
+
+/// Whether the numbers that the options give are within their limits.
+pub fn are_low(options: &[UrbOption]) -> bool
+    ensures { result ≡ (nat_le (len_in options.now) 16384 && nat_le (again_in options.now) 63) }
+{
+    len_in(options) <= MOST_BUFFER && again_in(options) <= MOST_AGAIN
+}
+
+/// The counts of the rejects behind a line that calls this URB, if any.
+pub fn rejects_behind(
+    alloc: Global,
+    scene: &Scene,
+    rejects: Rejects,
+    statement: &Statement,
+    urb: u32,
+) -> Result<Rejects, Memory>
+    requires few { (u : ℕ) → slice_index rejects u ≤ 100 }
+    requires called { urb ≡ called_urb scene.now statement.now }
+    ensures { IfOk result (λ next. next ≡ counts_with scene.now statement.now rejects) }
+{
+    match statement {
+        Statement::Thread { .. } => Rejects::none(alloc, scene.urbs.items().len()),
+        Statement::OnUrb { call, .. } => {
+            let mut rejects = rejects;
+            rejects.change(*call, urb as usize);
+            Ok(rejects)
+        }
+        _ => Ok(rejects),
+    }
+}
+
+/// The names behind a line.
+pub fn names_behind(
+    alloc: Global,
+    scene: &Scene,
+    names: Names,
+    statement: &Statement,
+) -> Result<Names, Memory>
+    requires { length scene.now.urbs ≤ 256 }
+    ensures { IfOk result (λ next. (other : List ℕ) → number_in next.numbers other ≡ found_with scene.now statement.now (number_in names.numbers) other) }
+{
+    match statement {
+        Statement::Urb { name, .. } => {
+            let mut names = names;
+            names.add(alloc, name.bytes(), scene.urbs.items().len() as u32)?;
+            Ok(names)
+        }
+        _ => Ok(names),
+    }
+}

@@ -1,0 +1,74 @@
+-- A statement that is printed is read again.
+use Rattle.std.proofs.Common.{◌≡◌, not, cond, [], ◌∷◌, map, Some, None, refl, ap, ◌∙◌}
+use Rattle.std.specs.Prelude.{option_and_then}
+use Rattle.std.specs.Fmt as fmt
+use Rattle.std.specs.Option.{option_map}
+use Rattle.std.specs.List.{flat_map}
+use Rattle.std.proofs.lemmas.Bool.{and_from, not_from_false}
+use Rattle.usb_text.specs.Kinds.{number_of}
+use Rattle.usb_text.specs.Print.{hex_pair, hex_text}
+use Rattle.usb_text.proofs.Back.{number_of-decimal}
+use Rattle.usb_statement.specs.Items.{items_of, are_items_of}
+use Rattle.usb_statement.specs.Options.{options_of}
+use Rattle.usb_statement.specs.UrbNames.{name_of}
+use Rattle.usb_statement.specs.Statements.{end_of, kind_of, sent_of, is_empty, answer_with, keyword_of, keyword_said, statement_of}
+use Rattle.usb_statement.specs.Sayable.{IsSayable}
+use Rattle.usb_statement.specs.Printed.{keyword_text, kind_text, item_text, option_words, words_said}
+use Rattle.usb_statement.specs.declared.statement.Statement.{Statement}
+use Rattle.usb_statement.specs.declared.statement.Statement.TheVariants as say
+use Rattle.usb_statement.specs.declared.keyword.Keyword.{Keyword}
+use Rattle.usb_statement.specs.declared.keyword.Keyword.TheVariants as word
+use Rattle.usb_statement.specs.declared.keyword.UrbCall.{UrbCall}
+use Rattle.usb_statement.specs.declared.keyword.UrbCall.TheVariants.{Unlink, Kill, Poison, Unpoison, Block, Unblock}
+use Rattle.usb_statement.specs.declared.keyword.BareCall.{BareCall}
+use Rattle.usb_statement.specs.declared.keyword.BareCall.TheVariants.{Serve, Down, Up}
+use Rattle.usb_statement.proofs.BackWords.{back_name, back_end, back_kind, back_items, back_options, back_urb, back_sent}
+
+back_on_urb : (call : UrbCall) → keyword_of (keyword_text (word.OnUrb call)) ≡ Some (word.OnUrb call)
+back_on_urb Unlink = refl
+back_on_urb Kill = refl
+back_on_urb Poison = refl
+back_on_urb Unpoison = refl
+back_on_urb Block = refl
+back_on_urb Unblock = refl
+
+back_alone : (call : BareCall) → keyword_of (keyword_text (word.Alone call)) ≡ Some (word.Alone call)
+back_alone Serve = refl
+back_alone Down = refl
+back_alone Up = refl
+
+-- the first word
+pub back_keyword : (keyword : Keyword) → keyword_of (keyword_text keyword) ≡ Some keyword
+back_keyword word.Device = refl
+back_keyword word.Ep = refl
+back_keyword word.Answer = refl
+back_keyword word.Urb = refl
+back_keyword word.Thread = refl
+back_keyword word.Submit = refl
+back_keyword (word.OnUrb call) = back_on_urb call
+back_keyword (word.Alone call) = back_alone call
+
+-- the words behind it
+pub back_words : (st : Statement) → IsSayable st → statement_of (keyword_said st) (words_said st) ≡ Some st
+back_words (say.Device name) h = ap (λ o. option_and_then (λ n. Some (say.Device n)) o) (back_name name h)
+back_words (say.Ep address kind size interval) h =
+    ap (λ o. option_and_then (λ a. option_and_then (λ k. option_and_then (λ s. option_and_then (λ i. Some (say.Ep a k s i)) (number_of (fmt.decimal interval))) (number_of (fmt.decimal size))) (kind_of (kind_text kind))) o) (back_end address h.address_of_end)
+    ∙ ap (λ o. option_and_then (λ k. option_and_then (λ s. option_and_then (λ i. Some (say.Ep address k s i)) (number_of (fmt.decimal interval))) (number_of (fmt.decimal size))) o) (back_kind kind h.kind_of_end)
+    ∙ ap (λ o. option_and_then (λ s. option_and_then (λ i. Some (say.Ep address kind s i)) (number_of (fmt.decimal interval))) o) (number_of-decimal size h.size_number)
+    ∙ ap (λ o. option_and_then (λ i. Some (say.Ep address kind size i)) o) (number_of-decimal interval h.interval_number)
+back_words (say.Answer address items) h =
+    ap (λ o. option_and_then (λ a. option_and_then (λ is. answer_with a is) (items_of (map item_text items))) o) (back_end address h.address_of_end)
+    ∙ ap (λ o. option_and_then (λ is. answer_with address is) o) (back_items items h.each)
+    ∙ ap (λ t. cond t (Some (say.Answer address items)) None) (and_from (not (is_empty items)) (are_items_of address items) (not_from_false (is_empty items) h.some) h.fit)
+back_words (say.Urb name device address options) h =
+    ap (λ o. option_and_then (λ n. option_and_then (λ d. option_and_then (λ a. option_and_then (λ os. Some (say.Urb n d a os)) (options_of (flat_map option_words options))) (end_of (hex_pair address))) (name_of device)) o) (back_name name h.named)
+    ∙ ap (λ o. option_and_then (λ d. option_and_then (λ a. option_and_then (λ os. Some (say.Urb name d a os)) (options_of (flat_map option_words options))) (end_of (hex_pair address))) o) (back_name device h.on_device)
+    ∙ ap (λ o. option_and_then (λ a. option_and_then (λ os. Some (say.Urb name device a os)) (options_of (flat_map option_words options))) o) (back_end address h.address_of_end)
+    ∙ ap (λ o. option_and_then (λ os. Some (say.Urb name device address os)) o) (back_options options h.each)
+back_words (say.Thread name) h = ap (option_map (λ n. say.Thread n)) (back_name name h)
+back_words (say.Submit urb None) h = ap (λ o. option_and_then (λ u. Some (say.Submit u None)) o) (back_urb urb h.0)
+back_words (say.Submit urb (Some bytes)) h =
+    ap (λ o. option_and_then (λ u. option_and_then (λ sent. Some (say.Submit u sent)) (sent_of (hex_text bytes ∷ []))) o) (back_urb urb h.0)
+    ∙ ap (λ o. option_and_then (λ sent. Some (say.Submit urb sent)) o) (back_sent bytes h.1.0 h.1.1)
+back_words (say.OnUrb call urb) h = ap (option_map (λ u. say.OnUrb call u)) (back_urb urb h)
+back_words (say.Alone call) h = refl

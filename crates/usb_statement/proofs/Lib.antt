@@ -1,0 +1,6 @@
+pub mod BackLines
+pub mod BackWords
+pub mod Ink
+pub mod Kept
+pub mod SaidLines
+pub mod SaidWords

@@ -1,0 +1,110 @@
+-- What holds of what a line says.
+use Rattle.std.proofs.Common.{◌≡◌, ℕ, not, List, [], ◌∷◌, Some, subst}
+use Rattle.std.specs.Prelude.{◌&&◌, codes}
+use Rattle.std.specs.List.{All}
+use Rattle.std.specs.Str.{bytes_eq}
+use Rattle.std.proofs.lemmas.Bool.{and_parts, not-true}
+use Rattle.std.proofs.lemmas.Option.{option_and_then_some, same_Some}
+use Rattle.usb_text.specs.Kinds.{number_of}
+use Rattle.usb_text.proofs.Known.{some_if}
+use Rattle.usb_text.proofs.KnownBytes.{small_number}
+use Rattle.usb_xfer.specs.declared.script.Item.{Item}
+use Rattle.usb_statement.specs.Items.{items_of, are_items_of}
+use Rattle.usb_statement.specs.Options.{options_of}
+use Rattle.usb_statement.specs.UrbNames.{name_of, urb_name_of}
+use Rattle.usb_statement.specs.Statements.{end_of, kind_of, sent_of, is_empty, answer_with, statement_of}
+use Rattle.usb_statement.specs.Sayable.{IsSayable, IsEndAddress, IsSayableItem}
+use Rattle.usb_statement.specs.declared.statement.Statement.{Statement}
+use Rattle.usb_statement.specs.declared.statement.Statement.TheVariants as say
+use Rattle.usb_statement.specs.declared.keyword.Keyword.{Keyword}
+use Rattle.usb_statement.specs.declared.keyword.Keyword.TheVariants as word
+use Rattle.usb_statement.specs.declared.keyword.UrbCall.{UrbCall}
+use Rattle.usb_statement.specs.declared.keyword.BareCall.{BareCall}
+use Rattle.usb_statement.proofs.SaidWords.{option_map_some, said_name, said_end, said_kind, said_items, said_options, said_urb, said_sent}
+
+said_device : (texts : List (List ℕ)) (st : Statement) → statement_of word.Device texts ≡ Some st → IsSayable st
+said_device [] st h = cc
+said_device (name ∷ []) st h = cc
+said_device (text ∷ kind ∷ []) st h =
+    option_and_then_some _ (name_of text) st h (λ name e g.
+    subst IsSayable (some_if (bytes_eq kind (codes "raw")) (say.Device name) st g).1 (said_name text name e))
+said_device (text ∷ kind ∷ more ∷ texts) st h = cc
+
+said_ep : (texts : List (List ℕ)) (st : Statement) → statement_of word.Ep texts ≡ Some st → IsSayable st
+said_ep [] st h = cc
+said_ep (a ∷ []) st h = cc
+said_ep (a ∷ b ∷ []) st h = cc
+said_ep (a ∷ b ∷ c ∷ []) st h = cc
+said_ep (a ∷ k ∷ s ∷ i ∷ []) st h =
+    option_and_then_some _ (end_of a) st h (λ address e g.
+    option_and_then_some _ (kind_of k) st g (λ kind e2 g2.
+    option_and_then_some _ (number_of s) st g2 (λ size e3 g3.
+    option_and_then_some _ (number_of i) st g3 (λ interval e4 g4.
+    subst IsSayable (same_Some (say.Ep address kind size interval) st g4) (record {
+      address_of_end = said_end a address e;
+      kind_of_end = said_kind k kind e2;
+      size_number = small_number s size e3;
+      interval_number = small_number i interval e4;
+    })))))
+said_ep (a ∷ k ∷ s ∷ i ∷ more ∷ texts) st h = cc
+
+said_answer_with : (address : ℕ) (items : List Item) (st : Statement) → IsEndAddress address → All IsSayableItem items → answer_with address items ≡ Some st → IsSayable st
+said_answer_with address items st end each h =
+    let p = some_if (not (is_empty items) && are_items_of address items) (say.Answer address items) st h in
+    let q = and_parts (not (is_empty items)) (are_items_of address items) p.0 in
+    subst IsSayable p.1 (record { address_of_end = end; some = not-true (is_empty items) q.0; each = each; fit = q.1 })
+
+said_answer : (texts : List (List ℕ)) (st : Statement) → statement_of word.Answer texts ≡ Some st → IsSayable st
+said_answer [] st h = cc
+said_answer (a ∷ texts) st h =
+    option_and_then_some _ (end_of a) st h (λ address e g.
+    option_and_then_some _ (items_of texts) st g (λ items e2 g2.
+    said_answer_with address items st (said_end a address e) (said_items texts items e2) g2))
+
+said_urb_line : (texts : List (List ℕ)) (st : Statement) → statement_of word.Urb texts ≡ Some st → IsSayable st
+said_urb_line [] st h = cc
+said_urb_line (a ∷ []) st h = cc
+said_urb_line (a ∷ b ∷ []) st h = cc
+said_urb_line (n ∷ d ∷ a ∷ texts) st h =
+    option_and_then_some _ (name_of n) st h (λ name e g.
+    option_and_then_some _ (name_of d) st g (λ device e2 g2.
+    option_and_then_some _ (end_of a) st g2 (λ address e3 g3.
+    option_and_then_some _ (options_of texts) st g3 (λ options e4 g4.
+    subst IsSayable (same_Some (say.Urb name device address options) st g4) (record {
+      named = said_name n name e;
+      on_device = said_name d device e2;
+      address_of_end = said_end a address e3;
+      each = said_options texts options e4;
+    })))))
+
+said_thread : (texts : List (List ℕ)) (st : Statement) → statement_of word.Thread texts ≡ Some st → IsSayable st
+said_thread [] st h = cc
+said_thread (text ∷ []) st h = option_map_some _ (name_of text) st h (λ name e g. subst IsSayable g (said_name text name e))
+said_thread (text ∷ more ∷ texts) st h = cc
+
+said_submit : (texts : List (List ℕ)) (st : Statement) → statement_of word.Submit texts ≡ Some st → IsSayable st
+said_submit [] st h = cc
+said_submit (text ∷ texts) st h =
+    option_and_then_some _ (urb_name_of text) st h (λ urb e g.
+    option_and_then_some _ (sent_of texts) st g (λ bytes e2 g2.
+    subst IsSayable (same_Some (say.Submit urb bytes) st g2) (said_urb text urb e, said_sent texts bytes e2)))
+
+said_on_urb : (call : UrbCall) (texts : List (List ℕ)) (st : Statement) → statement_of (word.OnUrb call) texts ≡ Some st → IsSayable st
+said_on_urb call [] st h = cc
+said_on_urb call (text ∷ []) st h = option_map_some _ (urb_name_of text) st h (λ urb e g. subst IsSayable g (said_urb text urb e))
+said_on_urb call (text ∷ more ∷ texts) st h = cc
+
+said_alone : (call : BareCall) (texts : List (List ℕ)) (st : Statement) → statement_of (word.Alone call) texts ≡ Some st → IsSayable st
+said_alone call [] st h = subst IsSayable (same_Some (say.Alone call) st h) tt
+said_alone call (text ∷ texts) st h = cc
+
+-- what a line says is what some line can say
+pub said_sayable : (keyword : Keyword) (texts : List (List ℕ)) (st : Statement) → statement_of keyword texts ≡ Some st → IsSayable st
+said_sayable word.Device texts st h = said_device texts st h
+said_sayable word.Ep texts st h = said_ep texts st h
+said_sayable word.Answer texts st h = said_answer texts st h
+said_sayable word.Urb texts st h = said_urb_line texts st h
+said_sayable word.Thread texts st h = said_thread texts st h
+said_sayable word.Submit texts st h = said_submit texts st h
+said_sayable (word.OnUrb call) texts st h = said_on_urb call texts st h
+said_sayable (word.Alone call) texts st h = said_alone call texts st h

@@ -1,0 +1,7 @@
+pub mod Chain
+pub mod Items
+pub mod Options
+pub mod Printed
+pub mod Sayable
+pub mod Statements
+pub mod UrbNames

@@ -1,0 +1,136 @@
+-- What a line says by itself: a row of the grammar for each first word.
+use Rattle.std.specs.Prelude.{ℕ, ◌==◌, ◌&&◌, if◌then◌else◌, List, [], ◌∷◌, ◌++◌, take, Option, Some, None, codes, Bool, true, false, not}
+use Rattle.std.specs.Option.{option_map}
+use Rattle.std.specs.Str.{bytes_eq}
+use Rattle.usb_machine.specs.declared.layout.EndKind.{EndKind}
+use Rattle.usb_machine.specs.declared.layout.EndKind.TheVariants.{Bulk, Interrupt, Iso}
+use Rattle.usb_text.specs.Kinds.{number_of, address_of}
+use Rattle.usb_text.specs.Bytes.{data_of}
+use Rattle.usb_xfer.specs.declared.script.Item.{Item}
+use Rattle.usb_statement.specs.Chain.{◌>>=◌}
+use Rattle.usb_statement.specs.Items.{items_of, are_items_of}
+use Rattle.usb_statement.specs.Options.{options_of}
+use Rattle.usb_statement.specs.UrbNames.{name_of, urb_name_of}
+use Rattle.usb_statement.specs.declared.statement.Statement.{Statement}
+use Rattle.usb_statement.specs.declared.statement.Statement.TheVariants as say
+use Rattle.usb_statement.specs.declared.keyword.Keyword.{Keyword}
+use Rattle.usb_statement.specs.declared.keyword.Keyword.TheVariants as word
+use Rattle.usb_statement.specs.declared.keyword.UrbCall.{UrbCall}
+use Rattle.usb_statement.specs.declared.keyword.UrbCall.TheVariants.{Unlink, Kill, Poison, Unpoison, Block, Unblock}
+use Rattle.usb_statement.specs.declared.keyword.BareCall.{BareCall}
+use Rattle.usb_statement.specs.declared.keyword.BareCall.TheVariants.{Serve, Down, Up}
+
+-- a call on an URB alone
+abbrev pub urb_call_of : List ℕ → Option UrbCall
+urb_call_of text =
+    if bytes_eq text (codes "unlink") then Some Unlink
+    else if bytes_eq text (codes "kill") then Some Kill
+    else if bytes_eq text (codes "poison") then Some Poison
+    else if bytes_eq text (codes "unpoison") then Some Unpoison
+    else if bytes_eq text (codes "block") then Some Block
+    else if bytes_eq text (codes "unblock") then Some Unblock
+    else None
+
+-- a call on nothing
+abbrev pub bare_call_of : List ℕ → Option BareCall
+bare_call_of text =
+    if bytes_eq text (codes "serve") then Some Serve
+    else if bytes_eq text (codes "down") then Some Down
+    else if bytes_eq text (codes "up") then Some Up
+    else None
+
+abbrev pub call_keyword : Option UrbCall → Option BareCall → Option Keyword
+call_keyword (Some call) bare = Some (word.OnUrb call)
+call_keyword None (Some call) = Some (word.Alone call)
+call_keyword None None = None
+
+-- the first word
+abbrev pub keyword_of : List ℕ → Option Keyword
+keyword_of text =
+    if bytes_eq text (codes "device") then Some word.Device
+    else if bytes_eq text (codes "ep") then Some word.Ep
+    else if bytes_eq text (codes "answer") then Some word.Answer
+    else if bytes_eq text (codes "urb") then Some word.Urb
+    else if bytes_eq text (codes "thread") then Some word.Thread
+    else if bytes_eq text (codes "submit") then Some word.Submit
+    else call_keyword (urb_call_of text) (bare_call_of text)
+
+abbrev pub is_empty : {X : Type 0} → List X → Bool
+is_empty [] = true
+is_empty (x ∷ xs) = false
+
+-- the address of an endpoint beside 00
+abbrev pub end_of : List ℕ → Option ℕ
+end_of text = do
+  address ← address_of text
+  if address == 0 then None else Some address
+
+-- TYPE
+abbrev pub kind_of : List ℕ → Option EndKind
+kind_of text =
+    if bytes_eq text (codes "bulk") then Some Bulk
+    else if bytes_eq text (codes "int") then Some Interrupt
+    else if bytes_eq text (codes "iso") then Some Iso
+    else None
+
+-- DATA.., joined
+abbrev pub joined_data : List (List ℕ) → Option (List ℕ)
+joined_data [] = Some []
+joined_data (text ∷ texts) = do
+  bytes ← data_of text
+  others ← joined_data texts
+  Some (bytes ++ others)
+
+-- the bytes of DATA.., of which no more is kept than one above the most of a buffer
+abbrev pub kept_data : List (List ℕ) → Option (List ℕ)
+kept_data texts = option_map (λ bytes. take 16385 bytes) (joined_data texts)
+
+-- what a submit says to send, if anything
+abbrev pub sent_of : List (List ℕ) → Option (Option (List ℕ))
+sent_of [] = Some None
+sent_of (text ∷ texts) = option_map (λ bytes. Some bytes) (kept_data (text ∷ texts))
+
+-- some items that the endpoint at this address can give
+abbrev pub answer_with : ℕ → List Item → Option Statement
+answer_with address items = if not (is_empty items) && are_items_of address items then Some (say.Answer address items) else None
+
+-- what a line says, by its first word and the words behind it
+abbrev pub statement_of : Keyword → List (List ℕ) → Option Statement
+statement_of word.Device (name ∷ kind ∷ []) = do
+  name ← name_of name
+  if bytes_eq kind (codes "raw") then Some (say.Device name) else None
+statement_of word.Ep (address ∷ kind ∷ size ∷ interval ∷ []) = do
+  address ← end_of address
+  kind ← kind_of kind
+  size ← number_of size
+  interval ← number_of interval
+  Some (say.Ep address kind size interval)
+statement_of word.Answer (address ∷ items) = do
+  address ← end_of address
+  items ← items_of items
+  answer_with address items
+statement_of word.Urb (name ∷ device ∷ address ∷ options) = do
+  name ← name_of name
+  device ← name_of device
+  address ← end_of address
+  options ← options_of options
+  Some (say.Urb name device address options)
+statement_of word.Thread (name ∷ []) = option_map (λ name. say.Thread name) (name_of name)
+statement_of word.Submit (urb ∷ texts) = do
+  urb ← urb_name_of urb
+  bytes ← sent_of texts
+  Some (say.Submit urb bytes)
+statement_of (word.OnUrb call) (urb ∷ []) = option_map (λ urb. say.OnUrb call urb) (urb_name_of urb)
+statement_of (word.Alone call) [] = Some (say.Alone call)
+statement_of _ _ = None
+
+-- the first word of the line that says this
+abbrev pub keyword_said : Statement → Keyword
+keyword_said (say.Device name) = word.Device
+keyword_said (say.Ep address kind size interval) = word.Ep
+keyword_said (say.Answer address items) = word.Answer
+keyword_said (say.Urb name device address options) = word.Urb
+keyword_said (say.Thread name) = word.Thread
+keyword_said (say.Submit urb bytes) = word.Submit
+keyword_said (say.OnUrb call urb) = word.OnUrb call
+keyword_said (say.Alone call) = word.Alone call

@@ -1,0 +1,102 @@
+//! The first word of a line.
+ghost use Rattle.std.specs.Prelude.{◌≡◌};
+ghost use Rattle.usb_statement.specs.Statements.{urb_call_of, bare_call_of, call_keyword, keyword_of};
+
+use usb_text::is_text;
+
+/// A call on an URB alone.
+#[derive(Clone, Copy, Debug, PartialEq, Eq)]
+pub enum UrbCall {
+    Unlink,
+    Kill,
+    Poison,
+    Unpoison,
+    Block,
+    Unblock,
+}
+
+/// A call on nothing.
+#[derive(Clone, Copy, Debug, PartialEq, Eq)]
+pub enum BareCall {
+    Serve,
+    Down,
+    Up,
+}
+
+/// What the first word of a line may be.
+#[derive(Clone, Copy, Debug, PartialEq, Eq)]
+pub enum Keyword {
+    Device,
+    Ep,
+    Answer,
+    Urb,
+    Thread,
+    Submit,
+    OnUrb(UrbCall),
+    Alone(BareCall),
+}
+
+fn urb_call(word: &[u8]) -> Option<UrbCall>
+    ensures { result ≡ urb_call_of word.now }
+{
+    if is_text(word, "unlink") {
+        Some(UrbCall::Unlink)
+    } else if is_text(word, "kill") {
+        Some(UrbCall::Kill)
+    } else if is_text(word, "poison") {
+        Some(UrbCall::Poison)
+    } else if is_text(word, "unpoison") {
+        Some(UrbCall::Unpoison)
+    } else if is_text(word, "block") {
+        Some(UrbCall::Block)
+    } else if is_text(word, "unblock") {
+        Some(UrbCall::Unblock)
+    } else {
+        None
+    }
+}
+
+fn bare_call(word: &[u8]) -> Option<BareCall>
+    ensures { result ≡ bare_call_of word.now }
+{
+    if is_text(word, "serve") {
+        Some(BareCall::Serve)
+    } else if is_text(word, "down") {
+        Some(BareCall::Down)
+    } else if is_text(word, "up") {
+        Some(BareCall::Up)
+    } else {
+        None
+    }
+}
+
+fn call_word(word: &[u8]) -> Option<Keyword>
+    ensures { result ≡ call_keyword (urb_call_of word.now) (bare_call_of word.now) }
+{
+    match (urb_call(word), bare_call(word)) {
+        (Some(call), _) => Some(Keyword::OnUrb(call)),
+        (None, Some(call)) => Some(Keyword::Alone(call)),
+        (None, None) => None,
+    }
+}
+
+/// What the first word of a line asks for.
+pub fn read_keyword(word: &[u8]) -> Option<Keyword>
+    ensures { result ≡ keyword_of word.now }
+{
+    if is_text(word, "device") {
+        Some(Keyword::Device)
+    } else if is_text(word, "ep") {
+        Some(Keyword::Ep)
+    } else if is_text(word, "answer") {
+        Some(Keyword::Answer)
+    } else if is_text(word, "urb") {
+        Some(Keyword::Urb)
+    } else if is_text(word, "thread") {
+        Some(Keyword::Thread)
+    } else if is_text(word, "submit") {
+        Some(Keyword::Submit)
+    } else {
+        call_word(word)
+    }
+}

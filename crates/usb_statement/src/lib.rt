@@ -1,0 +1,17 @@
+//! What a line of a scene says by itself, and the line that says it.
+#![tactic(auto)]
+
+mod items;
+mod keyword;
+mod options;
+mod statement;
+mod statement_laws;
+mod urb_name;
+
+pub use keyword::{BareCall, Keyword, UrbCall, read_keyword};
+pub use options::UrbOption;
+pub use statement::{Statement, read_statement};
+pub use statement_laws::{
+    a_line_says_what_can_be_said, a_printed_line_is_words, keyword_reads_back, statement_reads_back,
+};
+pub use urb_name::UrbName;

@@ -1,0 +1,291 @@
+//! What a line of a scene says by itself: its first word, and the words behind it by the row of that word.
+ghost use Rattle.std.specs.Prelude.{◌≡◌, ◌≤◌, ◌∷◌, ◌++◌, [], length, take, IfOk, OnOk};
+ghost use Rattle.usb_text.specs.Words.{words};
+ghost use Rattle.usb_statement.specs.Statements.{end_of, kind_of, answer_with, kept_data, sent_of, statement_of};
+ghost use Rattle.usb_statement.specs.declared.keyword.Keyword.{Keyword};
+ghost use Rattle.usb_statement.specs.declared.keyword.Keyword.TheVariants as word;
+
+use crate::items::{are_items_of, read_items};
+use crate::keyword::{BareCall, Keyword, UrbCall};
+use crate::options::{UrbOption, read_options};
+use crate::urb_name::{UrbName, read_urb_name};
+use std::alloc::Global;
+use usb_machine::EndKind;
+use usb_text::{address, copy, data_bytes, is_name, is_text, next_word, number};
+use usb_types::{Buf, List, Memory};
+use usb_xfer::Item;
+
+/// What a line says, by itself.
+#[derive(Debug, Drop)]
+pub enum Statement {
+    Device {
+        name: Buf,
+    },
+    Ep {
+        address: u8,
+        kind: EndKind,
+        size: u32,
+        interval: u32,
+    },
+    Answer {
+        address: u8,
+        items: List<Item>,
+    },
+    Urb {
+        name: Buf,
+        device: Buf,
+        address: u8,
+        options: List<UrbOption>,
+    },
+    Thread {
+        name: Buf,
+    },
+    Submit {
+        urb: UrbName,
+        bytes: Option<Buf>,
+    },
+    OnUrb {
+        call: UrbCall,
+        urb: UrbName,
+    },
+    Alone {
+        call: BareCall,
+    },
+}
+
+fn device_of(alloc: Global, line: &[u8]) -> Result<Option<Statement>, Memory>
+    ensures { IfOk result (λ statement. statement ≡ statement_of word.Device (words line.now)) }
+{
+    let Some((name, line)) = next_word(line) else {
+        return Ok(None);
+    };
+    let Some((kind, line)) = next_word(line) else {
+        return Ok(None);
+    };
+    if next_word(line).is_none() && is_name(name) && is_text(kind, "raw") {
+        let name = copy(alloc, name)?;
+        Ok(Some(Statement::Device { name }))
+    } else {
+        Ok(None)
+    }
+}
+
+// The address of an endpoint beside 00.
+fn end_address(word: &[u8]) -> Option<u8>
+    ensures { result ≡ end_of word.now }
+{
+    let address = address(word)?;
+    if address == 0 { None } else { Some(address) }
+}
+
+fn end_kind(word: &[u8]) -> Option<EndKind>
+    ensures { result ≡ kind_of word.now }
+{
+    if is_text(word, "bulk") {
+        Some(EndKind::Bulk)
+    } else if is_text(word, "int") {
+        Some(EndKind::Interrupt)
+    } else if is_text(word, "iso") {
+        Some(EndKind::Iso)
+    } else {
+        None
+    }
+}
+
+fn ep(address: &[u8], kind: &[u8], size: &[u8], interval: &[u8]) -> Option<Statement>
+    ensures { result ≡ statement_of word.Ep (address.now ∷ kind.now ∷ size.now ∷ interval.now ∷ []) }
+{
+    let address = end_address(address)?;
+    let kind = end_kind(kind)?;
+    let size = number(size)?;
+    let interval = number(interval)?;
+    Some(Statement::Ep {
+        address,
+        kind,
+        size,
+        interval,
+    })
+}
+
+fn ep_of(line: &[u8]) -> Option<Statement>
+    ensures { result ≡ statement_of word.Ep (words line.now) }
+{
+    let (address, line) = next_word(line)?;
+    let (kind, line) = next_word(line)?;
+    let (size, line) = next_word(line)?;
+    let (interval, line) = next_word(line)?;
+    match next_word(line) {
+        None => ep(address, kind, size, interval),
+        Some(_) => None,
+    }
+}
+
+fn answer(address: u8, items: List<Item>) -> Option<Statement>
+    ensures { result ≡ answer_with address items }
+{
+    if !items.items().is_empty() && are_items_of(address, items.items()) {
+        Some(Statement::Answer { address, items })
+    } else {
+        None
+    }
+}
+
+fn answer_of(alloc: Global, line: &[u8]) -> Result<Option<Statement>, Memory>
+    ensures { IfOk result (λ statement. statement ≡ statement_of word.Answer (words line.now)) }
+{
+    let Some((address, line)) = next_word(line) else {
+        return Ok(None);
+    };
+    let Some(address) = end_address(address) else {
+        return Ok(None);
+    };
+    match read_items(alloc, line)? {
+        Some(items) => Ok(answer(address, items)),
+        None => Ok(None),
+    }
+}
+
+fn urb(
+    alloc: Global,
+    name: &[u8],
+    device: &[u8],
+    address: &[u8],
+    options: &[u8],
+) -> Result<Option<Statement>, Memory>
+    ensures { IfOk result (λ statement. statement ≡ statement_of word.Urb (name.now ∷ device.now ∷ address.now ∷ words options.now)) }
+{
+    if !is_name(name) || !is_name(device) {
+        return Ok(None);
+    }
+    match (end_address(address), read_options(alloc, options)?) {
+        (Some(address), Some(options)) => {
+            let name = copy(alloc, name)?;
+            let device = copy(alloc, device)?;
+            Ok(Some(Statement::Urb {
+                name,
+                device,
+                address,
+                options,
+            }))
+        }
+        _ => Ok(None),
+    }
+}
+
+fn urb_of(alloc: Global, line: &[u8]) -> Result<Option<Statement>, Memory>
+    ensures { IfOk result (λ statement. statement ≡ statement_of word.Urb (words line.now)) }
+{
+    let Some((name, line)) = next_word(line) else {
+        return Ok(None);
+    };
+    let Some((device, line)) = next_word(line) else {
+        return Ok(None);
+    };
+    match next_word(line) {
+        Some((address, options)) => urb(alloc, name, device, address, options),
+        None => Ok(None),
+    }
+}
+
+fn thread_of(alloc: Global, line: &[u8]) -> Result<Option<Statement>, Memory>
+    ensures { IfOk result (λ statement. statement ≡ statement_of word.Thread (words line.now)) }
+{
+    match next_word(line) {
+        Some((name, line)) if next_word(line).is_none() && is_name(name) => {
+            let name = copy(alloc, name)?;
+            Ok(Some(Statement::Thread { name }))
+        }
+        _ => Ok(None),
+    }
+}
+
+// Adds bytes as far as one byte above a buffer's most.
+#[tactic(auto, using(crate::proofs::Kept::take_onto))]
+fn keep(all: &mut Buf, bytes: &[u8]) -> Result<(), Memory>
+    requires { length all.now ≤ 16385 }
+    ensures { OnOk result (all.new ≡ take 16385 (all.old ++ bytes.now)) }
+{
+    let room = (16385 - all.bytes().len()).min(bytes.len());
+    all.append(&bytes[..room])
+}
+
+// The bytes of the words of data in a line.
+fn kept(alloc: Global, line: &[u8]) -> Result<Option<Buf>, Memory>
+    ensures { IfOk result (λ bytes. bytes ≡ kept_data (words line.now)) }
+{
+    let mut all = Buf::of(Vec::new(alloc));
+    let mut rest = line;
+    while let Some((word, behind)) = next_word(rest) {
+        match data_bytes(alloc, word)? {
+            Some(bytes) => keep(&mut all, bytes.bytes())?,
+            None => return Ok(None),
+        }
+        rest = behind;
+    }
+    Ok(Some(all))
+}
+
+fn sent(alloc: Global, line: &[u8]) -> Result<Option<Option<Buf>>, Memory>
+    ensures { IfOk result (λ sent. sent ≡ sent_of (words line.now)) }
+{
+    if next_word(line).is_none() {
+        return Ok(Some(None));
+    }
+    Ok(kept(alloc, line)?.map(|bytes| Some(bytes)))
+}
+
+fn submit_of(alloc: Global, line: &[u8]) -> Result<Option<Statement>, Memory>
+    ensures { IfOk result (λ statement. statement ≡ statement_of word.Submit (words line.now)) }
+{
+    let Some((urb, line)) = next_word(line) else {
+        return Ok(None);
+    };
+    let Some(urb) = read_urb_name(alloc, urb)? else {
+        return Ok(None);
+    };
+    match sent(alloc, line)? {
+        Some(bytes) => Ok(Some(Statement::Submit { urb, bytes })),
+        None => Ok(None),
+    }
+}
+
+fn on_urb(alloc: Global, call: UrbCall, line: &[u8]) -> Result<Option<Statement>, Memory>
+    ensures { IfOk result (λ statement. statement ≡ statement_of (word.OnUrb call) (words line.now)) }
+{
+    let Some((urb, line)) = next_word(line) else {
+        return Ok(None);
+    };
+    if next_word(line).is_some() {
+        return Ok(None);
+    }
+    Ok(read_urb_name(alloc, urb)?.map(|urb| Statement::OnUrb { call, urb }))
+}
+
+fn alone(call: BareCall, line: &[u8]) -> Option<Statement>
+    ensures { result ≡ statement_of (word.Alone call) (words line.now) }
+{
+    match next_word(line) {
+        None => Some(Statement::Alone { call }),
+        Some(_) => None,
+    }
+}
+
+/// What a line says, by its first word and the line behind it. None where the words do not fit the row.
+pub fn read_statement(
+    alloc: Global,
+    keyword: Keyword,
+    line: &[u8],
+) -> Result<Option<Statement>, Memory>
+    ensures { IfOk result (λ statement. statement ≡ statement_of keyword (words line.now)) }
+{
+    match keyword {
+        Keyword::Device => device_of(alloc, line),
+        Keyword::Ep => Ok(ep_of(line)),
+        Keyword::Answer => answer_of(alloc, line),
+        Keyword::Urb => urb_of(alloc, line),
+        Keyword::Thread => thread_of(alloc, line),
+        Keyword::Submit => submit_of(alloc, line),
+        Keyword::OnUrb(call) => on_urb(alloc, call, line),
+        Keyword::Alone(call) => Ok(alone(call, line)),
+    }
+}
