@@ -1,5 +1,5 @@
 -- The calls of a run in line order keep what holds between calls.
-use Rattle.std.proofs.Common.{ℕ, ◌≡◌, ◌≢◌, ◌+◌, ◌<◌, Bool, true, false, cond, eqb, Option, Some, List, [], ◌∷◌, ◌++◌, length, map, refl, sym, ap, ◌∙◌, subst, arith, append_assoc, append-nil, eq-eqb, ne_eqb, true≢false}
+use Rattle.std.proofs.Common.{ℕ, ◌≡◌, ◌≢◌, ◌+◌, ◌<◌, ◌≤◌, Bool, true, false, cond, eqb, Option, Some, List, [], ◌∷◌, ◌++◌, length, map, refl, sym, ap, ◌∙◌, subst, arith, append_assoc, append-nil, eq-eqb, ne_eqb, true≢false}
 use Rattle.std.specs.Prelude.{slice_get}
 use Rattle.std.specs.List.{flat_map, All, sum_by}
 use Rattle.std.proofs.lemmas.List.{map-append}
@@ -132,6 +132,10 @@ module _ (s : Scene) (good : IsWellFormed s) (f : Progress) (i : ℕ) (c : Call)
 
   pub can_call : CanCall s f i c
   can_call = record { serves = old.serves; near = near; is = is_call; backed = is_backed; hub = only_hub; flags = old.flags }
+
+  -- a script never holds many rejects
+  pub few_held : (v : ℕ) → rejects_at v (part_of f.history p) ≤ 100
+  few_held v = let most = formed.held.most (calls_by i f.doings) (c ∷ behind) v split in let sums = old.rejects i near v in omega arith
 
   -- a call that was made is counted
   module _ (d : Doing) (m : Progress) (thread_is : d.thread ≡ i) (call_is : d.call ≡ c) (found : d.down ≡ f.down) (done : IsCalled s f i d m) where

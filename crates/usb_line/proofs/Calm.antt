@@ -10,8 +10,7 @@ use Rattle.usb_machine.specs.declared.entry.TheConstants.{SERVER}
 use Rattle.usb_machine.specs.declared.event.Event.{Event}
 use Rattle.usb_machine.specs.declared.event.Event.TheVariants.{Submit, Link, Take, Mark, Finish, Give, Rest, End, Reject, Withdraw, Quiet, Claim, Flag, Unflag}
 use Rattle.usb_machine.specs.declared.event.Answer.{Answer}
-use Rattle.usb_machine.specs.declared.state.Mark.{Mark as MarkState}
-use Rattle.usb_machine.specs.declared.state.Mark.TheVariants.{Clear, Unlinked, Finished}
+use Rattle.usb_machine.specs.declared.state.Mark.TheVariants.{Clear}
 use Rattle.usb_machine.specs.declared.state.UrbState.{UrbState}
 use Rattle.usb_machine.specs.declared.transfer.Transfer.{Transfer}
 use Rattle.usb_machine.specs.declared.entry.Entry.{Entry}
@@ -30,29 +29,12 @@ use Rattle.usb_line.specs.declared.made.Outcome.TheVariants as outcome
 use Rattle.usb_line.specs.Prepared.{machine_of}
 use Rattle.usb_line.specs.Run.{Giveback, moved_in, resent, handled_by, given_entries, giveback_entries}
 use Rattle.usb_line.specs.Line.{takes, takes_below}
+pub use Rattle.usb_line.specs.Between.{is_finished, IsAtRest, IsCalm, AllLinked}
 use Rattle.usb_line.proofs.Entries.{AreOf, grows, stays}
 use Rattle.usb_line.proofs.Takes.{below_state, below_pass}
 use Rattle.usb_line.proofs.Givebacks.{handled_state, giveback_state, giveback_other, giveback_pass}
 use Rattle.usb_line.proofs.Submits.{submit_pass, submit_state, submit_other, submit_owes_none}
 use Rattle.usb_line.proofs.Stills.{IsStill, AreStill, stills_owe}
-
-abbrev pub is_finished : MarkState → Bool
-is_finished Clear = false
-is_finished (Unlinked why) = false
-is_finished (Finished code) = true
-
--- no handler of the URB runs, and no mark says that it is finished
-pub record IsAtRest (t : UrbState) : Type 0 where
-  pub handlers : t.handlers ≡ 0
-  pub mark : is_finished t.mark ≡ false
-
--- this holds of each URB
-abbrev pub IsCalm : List Entry → Type 0
-IsCalm h = (u : ℕ) → IsAtRest (state_of h u)
-
--- no pass owes a Link
-abbrev pub AllLinked : List Entry → Type 0
-AllLinked h = (p u : ℕ) → owes (part_of h p) u ≡ false
 
 pub calm_empty : IsCalm []
 calm_empty u = record { handlers = refl; mark = refl }

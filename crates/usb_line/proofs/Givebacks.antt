@@ -11,10 +11,10 @@ use Rattle.usb_machine.specs.declared.state.Mark.TheVariants.{Clear, Finished}
 use Rattle.usb_machine.specs.declared.transfer.Transfer.{Transfer}
 use Rattle.usb_machine.specs.declared.entry.Entry.{Entry}
 use Rattle.usb_machine.specs.declared.state.UrbState.{UrbState}
-use Rattle.usb_machine.specs.State.{refusal, is_zero, is_clear, status_of}
+use Rattle.usb_machine.specs.State.{is_zero, is_clear, status_of}
 use Rattle.usb_machine.specs.Shapes.{HasWindow, Accepts}
-use Rattle.usb_machine.specs.History.{HasHome, state_of, without, line_of, line_after, pending_of, pending_after, sent_of, sent_after}
-use Rattle.usb_machine.specs.Legal.{times, Follows}
+use Rattle.usb_machine.specs.History.{state_of, without, line_of, line_after, pending_of, pending_after, sent_of, sent_after}
+use Rattle.usb_machine.specs.Legal.{Follows}
 use Rattle.usb_machine.specs.Calls.{entry, plain_entry}
 use Rattle.usb_machine.proofs.Steps.{pending_of-snoc}
 use Rattle.usb_xfer.proofs.Windows.{moved_window}
@@ -22,6 +22,7 @@ use Rattle.usb_scene.specs.declared.scene.Scene.{Scene}
 use Rattle.usb_line.specs.declared.made.Outcome.{Outcome}
 use Rattle.usb_line.specs.declared.made.Outcome.TheVariants as outcome
 use Rattle.usb_line.specs.Prepared.{machine_of, home, shape_at}
+pub use Rattle.usb_line.specs.Back.{IsGated, IsSettled, CanGive}
 use Rattle.usb_line.specs.Run.{Giveback, moved_in, resent, handled_by, handler_entries, given_entries, giveback_entries}
 use Rattle.usb_line.proofs.Entries.{AreOf, AreAbout, change, own_state, other_state, AllFollow, AllFollow-append}
 use Rattle.usb_line.proofs.MayFollow.{once, finish_follows, give_follows, rest_follows, end_follows, submit_follows, link_follows, submit_owes}
@@ -37,11 +38,6 @@ abbrev pub handled_state : Outcome → ℕ → UrbState → UrbState
 handled_state outcome.Rest n t = record t { rest = Some n }
 handled_state (outcome.Again Zero) n t = record t { queued = true; mark = Clear }
 handled_state (outcome.Again (Fault e)) n t = record t { rest = Some n }
-
--- the handler of a resubmit was answered by the gate
-abbrev pub IsGated : UrbState → Outcome → Type 0
-IsGated t outcome.Rest = Unit {0}
-IsGated t (outcome.Again code) = code ≡ refusal t
 
 module _ (u : ℕ) (status : Code) where
   pub given_about : (b : Bool) → AreAbout u (given_entries u status b)
@@ -86,7 +82,7 @@ module _ (s : Scene) (h : List Entry) (r : Giveback) where
   abbrev end : Entry
   end = plain_entry SERVER (End record { 0 = r.urb })
 
-  whole : h ++ giveback_entries s r ≡ handled ++ end ∷ []
+  pub whole : h ++ giveback_entries s r ≡ handled ++ end ∷ []
   whole = sym (append_assoc h (given_entries r.urb r.status r.finished) (handler_entries s r))
       ∙ sym (append_assoc given (handled_by r.urb (moved_in s r) (resent s r) r.outcome) (end ∷ []))
 
@@ -187,25 +183,11 @@ module _ (s : Scene) (h : List Entry) (r : Giveback) where
       go false true (outcome.Again (Fault c)) is = ap (λ b. cond b (sent_of h v) (sent_of h v)) is
       go false false (outcome.Again (Fault c)) is = ap (λ b. cond b (sent_of h v) (sent_of h v)) is
 
-  -- what the entries need of the URB's mark
-  abbrev pub IsSettled : Bool → Type 0
-  IsSettled true = ((others : List ℕ) × (pending_of (machine_of s) h (home s r.urb) ≡ r.urb ∷ others)) × ((state_of h r.urb).mark ≡ Clear)
-  IsSettled false = (is_clear (state_of h r.urb).mark ≡ false) × (r.status ≡ status_of (state_of h r.urb).mark)
-
-  -- what the entries of a giveback need of the history
-  pub record CanGive : Type 0 where
-    pub among : 0 < times r.urb (pending_of (machine_of s) h (home s r.urb))
-    pub has : HasHome (machine_of s) r.urb
-    pub window : HasWindow r.sent
-    pub taken : Accepts (slice_get (machine_of s).layout.shapes (home s r.urb)) r.sent
-    pub settled : IsSettled r.finished
-    pub gated : IsGated (state_of given r.urb) r.outcome
-
-  module _ (can : CanGive) where
-    given_follow : AllFollow (machine_of s) h (given_entries r.urb r.status r.finished)
+  module _ (can : CanGive s h r) where
+    pub given_follow : AllFollow (machine_of s) h (given_entries r.urb r.status r.finished)
     given_follow = go r.finished can.settled
       where
-        go : (b : Bool) → IsSettled b → AllFollow (machine_of s) h (given_entries r.urb r.status b)
+        go : (b : Bool) → IsSettled s h r b → AllFollow (machine_of s) h (given_entries r.urb r.status b)
         go false is = (give_follows s h r.urb r.status can.among is.0 is.1, tt)
         go true is =
             let marked : state_of (h ++ entry SERVER (Finish record { 0 = r.urb } r.status) (Truth true) None ∷ []) r.urb ≡ record (state_of h r.urb) { mark = Finished r.status }
@@ -223,10 +205,10 @@ module _ (s : Scene) (h : List Entry) (r : Giveback) where
     runs : 0 < (state_of given r.urb).handlers
     runs = subst (λ (t : UrbState). 0 < t.handlers) (sym (given_state r.urb r.status h r.finished)) (omega arith)
 
-    back_window : HasWindow (moved_in s r)
+    pub back_window : HasWindow (moved_in s r)
     back_window = moved_window (shape_at s (home s r.urb)) r.sent r.replies can.window
 
-    again_window : HasWindow (resent s r)
+    pub again_window : HasWindow (resent s r)
     again_window = let w = back_window in record { window = w.window; buffer = w.buffer; within = omega arith }
 
     again_taken : Accepts (slice_get (machine_of s).layout.shapes (home s r.urb)) (resent s r)
@@ -242,7 +224,7 @@ module _ (s : Scene) (h : List Entry) (r : Giveback) where
         let same : state_of (given ++ submit (Fault e) ∷ []) r.urb ≡ state_of given r.urb = own_state r.urb given (submit (Fault e) ∷ []) (tt, refl, tt) in
         (f, (rest_follows s (given ++ submit (Fault e) ∷ []) r.urb (resent s r) again_window (subst (λ (t : UrbState). 0 < t.handlers) (sym same) runs), tt))
 
-    handled_follow : AllFollow (machine_of s) given (handled_by r.urb (moved_in s r) (resent s r) r.outcome)
+    pub handled_follow : AllFollow (machine_of s) given (handled_by r.urb (moved_in s r) (resent s r) r.outcome)
     handled_follow = go r.outcome can.gated
       where
         go : (o : Outcome) → IsGated (state_of given r.urb) o → AllFollow (machine_of s) given (handled_by r.urb (moved_in s r) (resent s r) o)
@@ -250,7 +232,7 @@ module _ (s : Scene) (h : List Entry) (r : Giveback) where
         go (outcome.Again c) is = submitted c (subst (λ (c : Code). Follows (machine_of s) given (submit c)) (sym is)
             (submit_follows s given SERVER r.urb (omega arith) (resent s r) can.has again_window refl again_taken))
 
-    end_runs : 0 < (state_of handled r.urb).handlers
+    pub end_runs : 0 < (state_of handled r.urb).handlers
     end_runs = subst (λ (t : UrbState). 0 < t.handlers) (sym handled_at) (go r.outcome)
       where
         go : (o : Outcome) → 0 < (handled_state o (moved_in s r).number (state_of given r.urb)).handlers

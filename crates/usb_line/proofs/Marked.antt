@@ -31,7 +31,7 @@ pub first_at_home : (g : Machine) (h : List Entry) (e u : ℕ) (others : List �
 first_at_home g h e u others legal first = at_home g h e u legal (once u (pending_of g h e) others first)
 
 module _ (s : Scene) (h : List Entry) where
-  abbrev unlinked : ℕ → List ℕ
+  abbrev pub unlinked : ℕ → List ℕ
   unlinked e = filter (λ u. is_unlinked (state_of h u).mark) (pending_of (machine_of s) h e)
 
   -- who is among them is pending

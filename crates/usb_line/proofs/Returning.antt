@@ -105,27 +105,31 @@ module _ (s : Scene) (f : Progress) (r : Giveback) where
       go false (outcome.Again (Fault e)) = refl
 
   -- what the endpoints keep
-  left_at : (e : ℕ) → home s r.urb ≡ e → (given_back s f r).so_far e ≡ left
+  pub left_at : (e : ℕ) → home s r.urb ≡ e → (given_back s f r).so_far e ≡ left
   left_at e is = go (is_first r.urb pending)
     where
       go : (b : Bool) → cond b (with_at (home s r.urb) [] f.so_far) f.so_far e ≡ cond b [] (f.so_far (home s r.urb))
       go true = ap (λ b. cond b [] (f.so_far e)) (eq-eqb e (home s r.urb) (sym is))
       go false = ap f.so_far (sym is)
 
-  left_else : (e : ℕ) → home s r.urb ≢ e → (given_back s f r).so_far e ≡ f.so_far e
+  pub left_else : (e : ℕ) → home s r.urb ≢ e → (given_back s f r).so_far e ≡ f.so_far e
   left_else e off = go (is_first r.urb pending)
     where
       go : (b : Bool) → cond b (with_at (home s r.urb) [] f.so_far) f.so_far e ≡ f.so_far e
       go true = ap (λ b. cond b [] (f.so_far e)) (ne_eqb e (home s r.urb) (λ i. off (sym i)))
       go false = refl
 
-  abbrev g : Progress
+  abbrev pub g : Progress
   g = given_back s f r
 
-  module _ (ready : CanReturn) (old : Serves s f) where
-    rounds-push : (e : ℕ) → rounds_at s e g.rounds ≡ rounds_at s e f.rounds ++ cond (eqb (home s r.urb) e) (r ∷ []) []
-    rounds-push e = filter-append (λ (r : Giveback). eqb (home s r.urb) e) f.rounds (r ∷ [])
+  -- the giveback is one of its endpoint
+  pub rounds-push : (e : ℕ) → rounds_at s e g.rounds ≡ rounds_at s e f.rounds ++ cond (eqb (home s r.urb) e) (r ∷ []) []
+  rounds-push e = filter-append (λ (r : Giveback). eqb (home s r.urb) e) f.rounds (r ∷ [])
 
+  pub still_sent : (v : ℕ) → v ≢ r.urb → sent_of g.history v ≡ sent_of h v
+  still_sent v off = giveback_sent s h r v ∙ ap (λ b. cond (b && resubmits r.outcome) (Some (resent s r)) (sent_of h v)) (ne_eqb r.urb v (λ i. off (sym i)))
+
+  module _ (ready : CanReturn) (old : Serves s f) where
     back_replies : (e : ℕ) → AreFirst (script_of s e) (replies_to s g e)
     back_replies e = dite (ℕ_discrete (home s r.urb) e)
         (λ is.
@@ -141,9 +145,6 @@ module _ (s : Scene) (f : Progress) (r : Giveback) where
 
     abbrev after_pending : ℕ → List ℕ
     after_pending e = pending_of (machine_of s) g.history e
-
-    still_sent : (v : ℕ) → v ≢ r.urb → sent_of g.history v ≡ sent_of h v
-    still_sent v off = giveback_sent s h r v ∙ ap (λ b. cond (b && resubmits r.outcome) (Some (resent s r)) (sent_of h v)) (ne_eqb r.urb v (λ i. off (sym i)))
 
     -- at the URB's endpoint either the replies are spent, or another URB is first
     moving_here : (us : List ℕ) → pending ≡ us → after_pending (home s r.urb) ≡ without r.urb us → IsMoving s g (home s r.urb)

@@ -27,11 +27,15 @@ takes_pass e [] = tt
 takes_pass e (u ∷ us) = (refl, takes_pass e us)
 
 module _ (e : ℕ) where
+  -- a Take leaves what stood behind the line's first
+  pub takes_rest : (g : Machine) (u : ℕ) (us : List ℕ) (h : List Entry) → line_of g h e ≡ u ∷ us → line_of g (h ++ took e u ∷ []) e ≡ us
+  takes_rest g u us h is = line_of-snoc h (took e u) g e ∙ (ap (λ b. cond b (without_first (line_of g h e)) (line_of g h e)) (eq-eqb e e refl) ∙ ap without_first is)
+
   takes_follow : (s : Scene) (us : List ℕ) (h : List Entry) → line_of (machine_of s) h e ≡ us → AllFollow (machine_of s) h (takes e us)
   takes_follow s [] h is = tt
   takes_follow s (u ∷ us) h is = (
     take_follows s h e u us is,
-    takes_follow s us (h ++ took e u ∷ []) (line_of-snoc h (took e u) (machine_of s) e ∙ (ap (λ b. cond b (without_first (line_of (machine_of s) h e)) (line_of (machine_of s) h e)) (eq-eqb e e refl) ∙ ap without_first is)),
+    takes_follow s us (h ++ took e u ∷ []) (takes_rest (machine_of s) u us h is),
   )
 
   -- the line is empty

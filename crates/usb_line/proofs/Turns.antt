@@ -72,7 +72,7 @@ takes_turned s f = record { parts = λ p off. stays SERVER f.history (takes_belo
 back_turned : (s : Scene) (f : Progress) (r : Giveback) → IsTurned f (given_back s f r)
 back_turned s f r = record { parts = λ p off. stays SERVER f.history (giveback_entries s r) (giveback_pass s f.history r) p (λ i. off (sym i)); doings = refl; down = refl }
 
-outcome_gated : (s : Scene) (f : Progress) (u : ℕ) (status : Code) (finished : Bool) → IsGated (state_of (f.history ++ given_entries u status finished) u) (outcome_at s f u status finished)
+pub outcome_gated : (s : Scene) (f : Progress) (u : ℕ) (status : Code) (finished : Bool) → IsGated (state_of (f.history ++ given_entries u status finished) u) (outcome_at s f u status finished)
 outcome_gated s f u status finished = go (acts_again s f.rounds u)
   where
     go : (b : Bool) → IsGated (state_of (f.history ++ given_entries u status finished) u) (cond b (outcome.Again (refusal (state_of (f.history ++ given_entries u status finished) u))) outcome.Rest)
@@ -152,7 +152,7 @@ module _ (s : Scene) (f : Progress) (old : Serves s f) (u : ℕ) (why : Why) (t 
       record { state = λ e. absurd (true≢false (sym e)); whole = marked_whole }
       marked_first marked_replies) old
 
-clear_mark : (m : MarkState) → is_unlinked m ≡ false → is_finished m ≡ false → m ≡ Clear
+pub clear_mark : (m : MarkState) → is_unlinked m ≡ false → is_finished m ≡ false → m ≡ Clear
 clear_mark Clear a b = refl
 clear_mark (Unlinked why) a b = absurd (true≢false a)
 clear_mark (Finished code) a b = absurd (true≢false b)

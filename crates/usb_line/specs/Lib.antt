@@ -2,3 +2,16 @@ pub mod Script
 pub mod Prepared
 pub mod Run
 pub mod Line
+pub mod Short
+pub mod Scripted
+pub mod Between
+pub mod Given
+pub mod Shows
+pub mod Steps
+pub mod Awake
+pub mod Back
+pub mod Opened
+pub mod Turned
+pub mod Calls
+pub mod Outcome
+pub mod Sent

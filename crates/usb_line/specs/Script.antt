@@ -1,6 +1,8 @@
 -- What a script replies to the calls of one address, by the number of the calls before.
 use Rattle.std.specs.Prelude.{ℕ, zero, suc, ◌-◌, ◌==◌, nat_lt, if◌then◌else◌, List, [], ◌∷◌, ◌++◌}
 use Rattle.usb_xfer.specs.Replies.{Reply}
+use Rattle.usb_xfer.specs.Direction.{goes_in}
+use Rattle.usb_xfer.specs.declared.script.What.TheVariants.{Nak, Ack}
 use Rattle.usb_xfer.specs.declared.script.Item.{Item}
 use Rattle.usb_xfer.specs.declared.script.Answers.{Answers}
 
@@ -26,3 +28,7 @@ replies_from script m (suc n) = reply_of script m ∷ replies_from script (suc m
 abbrev pub items_at : ℕ → List Answers → List Item
 items_at address [] = []
 items_at address (said ∷ others) = (if said.address == address then said.items else []) ++ items_at address others
+
+-- the reply behind the last item of an address
+abbrev pub last_at : ℕ → Reply
+last_at address = if goes_in address then Nak else Ack

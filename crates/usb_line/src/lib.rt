@@ -1,8 +1,30 @@
-//! The run of a scene in line order: what a run is, what line order adds, and the laws of both.
+//! The run of a scene in line order: what a run is, what line order adds, the laws of both, and the code that makes it.
 #![tactic(auto)]
 
+mod close;
+mod down;
+mod every;
+mod giveback;
 mod laws;
+mod line;
 mod made;
+mod make;
+mod prepare;
+mod received;
+mod run;
+mod script;
+mod steps;
+mod stop;
+mod submit;
+mod take;
+mod thread;
+mod turn;
+mod unlinked;
+mod urb_calls;
+mod wait;
+mod wake;
 
 pub use laws::{a_run_in_line_order_is_a_run, a_scene_has_one_run_in_line_order};
+pub use line::{LineOutcome, run_line};
 pub use made::{CallAnswer, CallMade, Deed, Given, Outcome};
+pub use run::{EndReceived, Received};

@@ -8,6 +8,7 @@ mod fault;
 pub mod laws;
 mod layout;
 mod pass_row;
+mod pending;
 mod plain;
 mod queues;
 mod replays;

@@ -15,7 +15,7 @@ use usb_types::{Flag, Memory, UrbId, Why};
 pub struct Plain {
     homes: Vec<Option<u32>>,
     states: Vec<UrbState>,
-    ends: Vec<Queues>,
+    pub(crate) ends: Vec<Queues>,
     passes: u32,
     rows: Vec<PassRow>,
     ghost homed: { length homes.items ≡ length states.items },

@@ -1,0 +1,143 @@
+-- The first unlinked URB comes back.
+use Rattle.std.proofs.Common.{ℕ, zero, suc, ◌≡◌, ◌+◌, ◌<◌, Bool, true, false, cond, eqb, Some, None, List, [], ◌∷◌, length, filter, refl, sym, ap, ◌∙◌, subst, arith, ne_eqb, true≢false}
+use Rattle.std.specs.Prelude.{slice_get, slice_set}
+use mathlib.Core.Logic.{dite}
+use native.Mathlib.Decide.{ℕ_discrete, dec_lt}
+use Rattle.usb_types.specs.declared.errno.Code.TheVariants.{Fault}
+use Rattle.usb_types.specs.declared.urb.Why.{Why}
+use Rattle.usb_types.specs.Codes.{errno_of}
+use Rattle.usb_machine.specs.declared.state.Mark.{Mark as MarkState}
+use Rattle.usb_machine.specs.declared.state.Mark.TheVariants.{Clear, Unlinked, Finished}
+use Rattle.usb_machine.specs.declared.transfer.Transfer.{Transfer}
+use Rattle.usb_machine.specs.declared.entry.Entry.{Entry}
+use Rattle.usb_machine.specs.State.{is_clear, status_of}
+use Rattle.usb_machine.specs.History.{state_of, pending_of}
+use Rattle.usb_machine.specs.Legal.{times}
+use Rattle.usb_machine.proofs.Rooms.{pending_is_queued, queued_has_home}
+use Rattle.usb_xfer.specs.Replies.{Reply}
+use Rattle.usb_scene.specs.declared.scene.Scene.{Scene}
+use Rattle.usb_line.specs.declared.run.UrbRow.{UrbRow}
+use Rattle.usb_line.specs.declared.run.LineRun.{LineRun}
+use Rattle.usb_line.specs.Prepared.{machine_of, ends_of, home, script_of}
+use Rattle.usb_line.specs.Run.{Giveback, is_first}
+use Rattle.usb_line.specs.Line.{Progress, is_unlinked, marked_below, marked_of, replies_used, replies_had, round_of, given_back}
+use Rattle.usb_line.specs.Scripted.{IsAfter}
+use Rattle.usb_line.specs.Shows.{ShowsEnd, Shows, turns_left}
+use Rattle.usb_line.specs.Back.{MayGive, GaveBack}
+use Rattle.usb_line.specs.Turned.{TakesOut, GaveUnlinked}
+use Rattle.usb_line.proofs.MayFollow.{once}
+use Rattle.usb_line.proofs.Marked.{times-append, unlinked, marked_at_home}
+use Rattle.usb_line.proofs.Turns.{outcome_gated}
+use Rattle.usb_line.proofs.Backs.{used_own}
+use Rattle.usb_line.proofs.Lookups.{set_read, set_again}
+use Rattle.usb_line.proofs.Pendings.{IsHeld, held_transfer, same_urbs}
+use Rattle.usb_line.proofs.Scanning.{within}
+use Rattle.usb_line.proofs.Returned.{shows_returned, falls_returned}
+
+-- who is among those that pass a test passes it
+passes : (p : ℕ → Bool) (u : ℕ) (us : List ℕ) → 0 < times u (filter p us) → p u ≡ true
+passes p u [] l = absurd (omega arith)
+passes p u (v ∷ us) l = go (p v) refl l (passes p u us)
+  where
+    go : (b : Bool) → p v ≡ b → 0 < times u (cond b (v ∷ filter p us) (filter p us)) → (0 < times u (filter p us) → p u ≡ true) → p u ≡ true
+    go false is l rest = rest l
+    go true is l rest = dite (ℕ_discrete v u)
+        (λ same. ap p (sym same) ∙ is)
+        (λ off. let none : cond {A = ℕ} (eqb v u) 1 0 ≡ 0 = ap (λ b. cond {A = ℕ} b 1 0) (ne_eqb v u off) in rest (omega arith))
+
+below_unlinked : (s : Scene) (h : List Entry) (u n : ℕ) → 0 < times u (marked_below s h n) → is_unlinked (state_of h u).mark ≡ true
+below_unlinked s h u zero l = absurd (omega arith)
+below_unlinked s h u (suc e) l = dite (dec_lt 0 (times u (unlinked s h e)))
+    (λ here. passes (λ u. is_unlinked (state_of h u).mark) u (pending_of (machine_of s) h e) here)
+    (λ off. let a = times-append u (marked_below s h e) (unlinked s h e) in below_unlinked s h u e (omega arith))
+
+reason : (m : MarkState) → is_unlinked m ≡ true → (why : Why) × (m ≡ Unlinked why)
+reason Clear is = absurd (true≢false (sym is))
+reason (Unlinked why) is = (why, refl)
+reason (Finished code) is = absurd (true≢false (sym is))
+
+pub first_is : (us : List ℕ) (u : ℕ) → slice_get us 0 ≡ Some u → (others : List ℕ) × (us ≡ u ∷ others)
+first_is [] u is = cc
+first_is (v ∷ us) u is = let same : v ≡ u = cc in (us, ap (λ w. w ∷ us) same)
+
+-- the replies are either told or kept
+told_or_kept : (b : Bool) (l : List Reply) → length (cond b l []) + length (cond b [] l) ≡ length l
+told_or_kept true l = omega arith
+told_or_kept false l = omega arith
+
+module _ (s : Scene) (f : Progress) (run mid new : LineRun) (old : Shows s f run) (u : ℕ) (t : Transfer) (out : TakesOut run mid u (Some t)) (back : GaveBack mid new u None t)
+    (first : slice_get (marked_of s f.history) 0 ≡ Some u) where
+  abbrev h : List Entry
+  h = f.history
+
+  abbrev others : List ℕ
+  others = (first_is (marked_of s h) u first).0
+
+  is : marked_of s h ≡ u ∷ others
+  is = (first_is (marked_of s h) u first).1
+
+  abbrev has : IsHeld s f run old u t
+  has = held_transfer s f run old u out.row t out.at out.is
+
+  why : (why : Why) × ((state_of h u).mark ≡ Unlinked why)
+  why = reason (state_of h u).mark (below_unlinked s h u (ends_of s) (once u (marked_of s h) others is))
+
+  abbrev r : Giveback
+  r = round_of s f u (Fault (errno_of why.0)) false has.moving.start (replies_had s f u)
+
+  among : 0 < times u (pending_of (machine_of s) h (home s u))
+  among = marked_at_home s h u others old.stands.legal is
+
+  may : MayGive s h r u None
+  may = record {
+    can = record {
+      among = among;
+      has = queued_has_home (machine_of s) u h old.stands.legal has.queued;
+      window = has.sent_window;
+      taken = has.taken;
+      settled = (ap is_clear why.1, ap status_of (sym why.1));
+      gated = outcome_gated s f u (Fault (errno_of why.0)) false;
+    };
+    at = refl;
+    by = refl;
+    idle = (old.calm u).handlers;
+  }
+
+  row_home : back.row.home ≡ home s u
+  row_home = ap (λ (x : UrbRow). x.home) (set_read run.urbs.items mid.urbs.items u (record out.row { transfer = None }) back.row out.rows back.at) ∙ (old.each_urb u out.row out.at).at
+
+  there : slice_get run.ends.items (home s u) ≡ Some back.end
+  there = (λ i. slice_get (sym out.same_ends i).items (sym row_home i)) ∙ back.there
+
+  mid_ends : mid.ends.items ≡ slice_set run.ends.items (home s u) back.end
+  mid_ends = (λ i. (out.same_ends i).items) ∙ sym (set_again run.ends.items (home s u) back.end there)
+
+  used : replies_used s (given_back s f r) (home s u) ≡ replies_used s f (home s u)
+  used = used_own s f r ∙ (let kept = told_or_kept (is_first u (pending_of (machine_of s) h (home s u))) (f.so_far (home s u)) in omega arith)
+
+  abbrev shown : ShowsEnd s f (home s u) back.end
+  shown = old.each_end (home s u) back.end there
+
+  pub gave_unlinked : GaveUnlinked s f new
+  gave_unlinked = record {
+    urb = u;
+    why = why.0;
+    start = has.moving.start;
+    is = record { others = others; first = is; mark = why.1; transfer = has.moving.sent };
+    shows = shows_returned s f run old u out.row out.at back.end there mid new back.end.script out.rows mid_ends out.same None t back (Fault (errno_of why.0)) false has.moving.start (replies_had s f u)
+        may has.moving.moving shown.address (subst (IsAfter back.end.script (script_of s (home s u))) (sym used) shown.after);
+  }
+
+  pub unlinked_falls : turns_left new < turns_left run
+  unlinked_falls = falls_returned s f run old u out.row out.at back.end there mid new back.end.script out.rows mid_ends out.same None t back (Fault (errno_of why.0)) false has.moving.start (replies_had s f u)
+      may has.moving.moving t out.is
+
+-- the first unlinked URB is queued, and one of the run's
+pub unlinked_near : (s : Scene) (f : Progress) (run : LineRun) → Shows s f run → (u : ℕ) → slice_get (marked_of s f.history) 0 ≡ Some u → (u < length run.urbs.items) × ((state_of f.history u).queued ≡ true)
+unlinked_near s f run old u first =
+    let is = first_is (marked_of s f.history) u first in
+    let queued = pending_is_queued (machine_of s) f.history u old.stands.legal (marked_at_home s f.history u is.0 old.stands.legal is.1) in
+    let has = queued_has_home (machine_of s) u f.history old.stands.legal queued in
+    let l = within (machine_of s).layout.homes u has.0 has.1 in
+    let all = same_urbs s f run old in let known = old.stands.urbs in
+    (omega arith, queued)

@@ -1,0 +1,18 @@
+use Rattle.std.proofs.Common.{◌≡◌, Some, sym, ap, ◌∙◌}
+use Rattle.std.specs.Prelude.{slice_get}
+use Rattle.std.proofs.lemmas.Option.{slice_get-get_or}
+use Rattle.usb_machine.specs.declared.layout.Shape.{Shape}
+use Rattle.usb_machine.specs.Shapes.{shape_fault}
+use Rattle.usb_line.specs.Prepared.{home}
+use Rattle.usb_line.proofs.run.LineRun.fault.Goals as goal
+
+pub returns : goal.returns
+returns c = λ s f shows.
+    let run = c.args.self.now in
+    let u = c.args.urb.0 in
+    let row = c.index.result.now in
+    let end = c.index-2.result.now in
+    let at : slice_get run.urbs.items u ≡ Some row = slice_get-get_or run.urbs.items u row c.requires.there ∙ ap Some (sym c.index.ensures) in
+    let there : slice_get run.ends.items row.home ≡ Some end = slice_get-get_or run.ends.items row.home end (c.requires.home row at) ∙ ap Some (sym c.index-2.ensures) in
+    let is = (shows.each_urb u row at).at in
+    c.shape_fault.ensures ∙ ap (λ (x : Shape). shape_fault x c.args.t.now) (shows.each_end (home s u) end (ap (slice_get run.ends.items) (sym is) ∙ there)).is

@@ -1,0 +1,46 @@
+use Rattle.std.proofs.Common.{Option, length, sym, ◌∙◌, subst}
+use Rattle.usb_machine.specs.declared.transfer.Transfer.{Transfer}
+use Rattle.usb_line.specs.Turned.{TakesOut}
+use Rattle.usb_line.proofs.Lookups.{none_of}
+use Rattle.usb_line.proofs.Pendings.{held_transfer, queued_holds, can_bring}
+use Rattle.usb_line.proofs.Unlinking.{unlinked_near, gave_unlinked, unlinked_falls}
+use Rattle.usb_line.proofs.run.LineRun.give_unlinked.Goals as goal
+
+pub take_out-requires : goal.take_out-requires
+take_out-requires c = let q = c.requires in (unlinked_near q.scene q.far c.args.self.now q.shows c.args.urb q.first).0
+
+pub returns-in_default-clause-falls : goal.returns-in_default-clause-falls
+returns-in_default-clause-falls c = let q = c.requires in let out = c.take_out.ensures in
+    absurd (queued_holds q.scene q.far c.args.self.now q.shows c.args.urb out.row out.at (unlinked_near q.scene q.far c.args.self.now q.shows c.args.urb q.first).1
+    (sym out.is ∙ none_of c.take_out.result c.in_default.not-Some))
+
+pub returns-in_default-clause-given : goal.returns-in_default-clause-given
+returns-in_default-clause-given c = λ s f good shows first. let out = c.take_out.ensures in
+    absurd (queued_holds s f c.args.self.now shows c.args.urb out.row out.at (unlinked_near s f c.args.self.now shows c.args.urb first).1
+    (sym out.is ∙ none_of c.take_out.result c.in_default.not-Some))
+
+pub bring_back-requires-clause-known : goal.bring_back-requires-clause-known
+bring_back-requires-clause-known c = let q = c.requires in let out = c.take_out.ensures in
+    (can_bring q.scene q.far c.args.self.now c.take_out.new.self q.shows q.good c.args.urb out.row out.at out.rows (λ i. length (out.same_ends i).items) out.same.plain).known
+
+pub bring_back-requires-clause-there : goal.bring_back-requires-clause-there
+bring_back-requires-clause-there c = let q = c.requires in let out = c.take_out.ensures in
+    (can_bring q.scene q.far c.args.self.now c.take_out.new.self q.shows q.good c.args.urb out.row out.at out.rows (λ i. length (out.same_ends i).items) out.same.plain).there
+
+pub bring_back-requires-clause-home : goal.bring_back-requires-clause-home
+bring_back-requires-clause-home c = let q = c.requires in let out = c.take_out.ensures in
+    (can_bring q.scene q.far c.args.self.now c.take_out.new.self q.shows q.good c.args.urb out.row out.at out.rows (λ i. length (out.same_ends i).items) out.same.plain).home
+
+pub bring_back-requires-clause-window : goal.bring_back-requires-clause-window
+bring_back-requires-clause-window c = let q = c.requires in let out = c.take_out.ensures in
+    (held_transfer q.scene q.far c.args.self.now q.shows c.args.urb out.row c.in-Some.t out.at (sym c.in-Some.is ∙ out.is)).window
+
+pub returns-clause-falls : goal.returns-clause-falls
+returns-clause-falls c = let q = c.requires in
+    unlinked_falls q.scene q.far c.args.self.now c.take_out.new.self c.bring_back.new.self q.shows c.args.urb c.in-Some.t
+    (subst (λ (o : Option Transfer). TakesOut c.args.self.now c.take_out.new.self c.args.urb o) c.in-Some.is c.take_out.ensures) c.in_ok-bring_back.ensures.back q.first
+
+pub returns-clause-given : goal.returns-clause-given
+returns-clause-given c = λ s f good shows first.
+    gave_unlinked s f c.args.self.now c.take_out.new.self c.bring_back.new.self shows c.args.urb c.in-Some.t
+    (subst (λ (o : Option Transfer). TakesOut c.args.self.now c.take_out.new.self c.args.urb o) c.in-Some.is c.take_out.ensures) c.in_ok-bring_back.ensures.back first

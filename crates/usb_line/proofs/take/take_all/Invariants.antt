@@ -1,0 +1,14 @@
+use Rattle.std.proofs.Common.{List, ◌++◌}
+use Rattle.usb_machine.specs.declared.entry.Entry.{Entry}
+use Rattle.usb_machine.specs.Plain.{Stands}
+use Rattle.usb_scene.specs.declared.scene.Scene.{Scene}
+use Rattle.usb_line.specs.Prepared.{machine_of}
+use Rattle.usb_line.specs.Line.{takes_below}
+use Rattle.usb_line.specs.Steps.{AsMany}
+use Rattle.usb_line.proofs.take.take_all.Given as goal
+
+abbrev pub invariant-loop-ep : goal.invariant-loop-ep
+invariant-loop-ep l = record {
+  counts : AsMany l.fn.plain l.plain;
+  taken : (s : Scene) (h : List Entry) → Stands l.fn.plain (machine_of s) h → Stands l.plain (machine_of s) (h ++ takes_below s h l.ep);
+}

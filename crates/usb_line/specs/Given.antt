@@ -1,0 +1,42 @@
+-- What a run leaves of its givebacks: a row for each, and of an OUT endpoint what it acknowledged.
+use Rattle.std.specs.Prelude.{ℕ, ◌≡◌, ◌-◌, ◌^◌, min, List, [], take, drop, length}
+use Rattle.std.specs.List.{flat_map}
+use Rattle.usb_machine.specs.declared.transfer.Transfer.{Transfer}
+use Rattle.usb_machine.specs.declared.layout.Shape.{Shape}
+use Rattle.usb_xfer.specs.Direction.{Direction, In, Out, direction_of}
+use Rattle.usb_xfer.specs.Moved.{acked_in}
+use Rattle.usb_scene.specs.declared.scene.Scene.{Scene}
+use Rattle.usb_line.specs.declared.made.Given.{Given}
+use Rattle.usb_line.specs.declared.run.Received.{Received}
+use Rattle.usb_line.specs.Prepared.{home, shape_at}
+use Rattle.usb_line.specs.Run.{Giveback, moved_in, rounds_at}
+
+-- the bytes that were moved: the first `actual` of the window
+abbrev pub moved_bytes : Transfer → List ℕ
+moved_bytes t = take t.actual (drop t.from t.buf)
+
+abbrev pub brought_in : Direction → Transfer → List ℕ
+brought_in In t = moved_bytes t
+brought_in Out t = []
+
+-- the bytes that an IN transfer brings
+abbrev pub brought_bytes : Shape → Transfer → List ℕ
+brought_bytes shape t = brought_in (direction_of shape) t
+
+-- what the report tells of a giveback
+abbrev pub given_of : Scene → Giveback → Given
+given_of s r = let t = moved_in s r in
+    record { urb = r.urb; status = r.status; actual = t.actual; outcome = r.outcome; bytes = brought_bytes (shape_at s (home s r.urb)) t }
+
+-- the bytes of an OUT transfer that were acknowledged when it came back
+abbrev pub sent_bytes : Shape → Transfer → List ℕ
+sent_bytes shape t = acked_in (direction_of shape) t
+
+-- the bytes that endpoint e acknowledged in these givebacks
+abbrev pub acked_at : Scene → ℕ → List Giveback → List ℕ
+acked_at s e rounds = flat_map (λ r. sent_bytes (shape_at s e) (moved_in s r)) (rounds_at s e rounds)
+
+-- how many bytes these are, and the first 64
+pub record IsReceived (bytes : List ℕ) (received : Received) : Type 0 where
+  pub count : received.count ≡ min (length bytes) (2 ^ 64 - 1)
+  pub first : received.first ≡ take 64 bytes

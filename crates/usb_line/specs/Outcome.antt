@@ -1,0 +1,36 @@
+-- What a run leaves for its report.
+use Rattle.std.specs.Prelude.{ℕ, ◌≡◌, ◌-◌, ◌^◌, min, List, length, map, take}
+use Rattle.usb_scene.specs.declared.scene.Scene.{Scene}
+use Rattle.usb_line.specs.declared.made.CallMade.{CallMade}
+use Rattle.usb_line.specs.declared.run.Received.{Received}
+use Rattle.usb_line.specs.declared.run.EndRow.{EndRow}
+use Rattle.usb_line.specs.declared.run.EndReceived.{EndReceived}
+use Rattle.usb_line.specs.declared.line.LineOutcome.{LineOutcome}
+use Rattle.usb_line.specs.Prepared.{ends_of, shape_at, deed_of}
+use Rattle.usb_line.specs.Run.{below, Doing, Giveback}
+use Rattle.usb_line.specs.Given.{given_of, acked_at}
+use Rattle.usb_line.specs.Line.{Progress, IsLineRun}
+
+-- what is kept of a call that was made
+abbrev pub made_of : Doing → CallMade
+made_of d = record { thread = d.thread; line = d.call.line; deed = deed_of d.call; answer = d.answer }
+
+-- how many bytes these are, and the first 64
+abbrev pub received_of : List ℕ → Received
+received_of bytes = record { count = min (length bytes) (2 ^ 64 - 1); first = take 64 bytes }
+
+-- what the object keeps of that
+abbrev pub received_at : EndRow → EndReceived
+received_at end = record { shape = end.shape; received = end.received }
+
+-- what endpoint e acknowledged in these givebacks
+abbrev pub end_of : Scene → List Giveback → ℕ → EndReceived
+end_of s rounds e = record { shape = shape_at s e; received = received_of (acked_at s e rounds) }
+
+-- the outcome is that of the scene's run in line order
+pub record IsOutcome (s : Scene) (o : LineOutcome) : Type 0 where
+  pub far : Progress
+  pub line : IsLineRun s far
+  pub made : o.made ≡ map made_of far.doings
+  pub given : o.given ≡ map (given_of s) far.rounds
+  pub ends : o.ends ≡ map (end_of s far.rounds) (below (ends_of s))

@@ -1,0 +1,125 @@
+//! The server gives an URB back, and its completion handler runs.
+ghost use Rattle.std.specs.Prelude.{◌≡◌, ◌<◌, ◌++◌, ℕ, List, true, length, slice_get, Some, IfOk};
+ghost use Rattle.usb_machine.specs.declared.entry.Entry.{Entry};
+ghost use Rattle.usb_machine.specs.Plain.{Stands, urbs_of};
+ghost use Rattle.usb_machine.specs.Shapes.{HasWindow};
+ghost use Rattle.usb_scene.specs.declared.scene.Scene.{Scene};
+ghost use Rattle.usb_line.specs.declared.run.UrbRow.{UrbRow};
+ghost use Rattle.usb_line.specs.Prepared.{machine_of};
+ghost use Rattle.usb_line.specs.Run.{Giveback, given_entries};
+ghost use Rattle.usb_line.specs.Steps.{AsMany};
+ghost use Rattle.usb_line.specs.Back.{MayGive, is_again, Finished, Acted, Resubmitted, Handled, GaveBack};
+
+use crate::made::{Given, Outcome};
+use crate::received::{brought, left_with};
+use crate::run::{LineRun, UrbRow};
+use crate::steps::{code_in, enter};
+use std::alloc::Global;
+use usb_machine::{Event, Plain, SERVER, Transfer};
+use usb_types::{Code, Memory, UrbId};
+
+// Marks the URB as finished where its transfer ended with a code.
+fn finish(plain: &mut Plain, urb: UrbId, ended: Option<Code>)
+    requires { urb.0 < urbs_of plain.old }
+    ensures counts { AsMany plain.old plain.new }
+    ensures finished { Finished plain.old plain.new urb.0 ended }
+{
+    if let Some(code) = ended {
+        enter(plain, SERVER, Event::Finish { urb, code });
+    }
+}
+
+// Gives the URB back, whose transfer ended with a code or was unlinked. Answers the status.
+fn give(plain: &mut Plain, urb: UrbId, ended: Option<Code>) -> Code
+    requires { urb.0 < urbs_of plain.old }
+    ensures counts { AsMany plain.old plain.new }
+    ensures given { (s : Scene) (h : List Entry) (r : Giveback) → Stands plain.old (machine_of s) h → MayGive s h r urb.0 ended
+        → (result ≡ r.status) × Stands plain.new (machine_of s) (h ++ given_entries r.urb r.status r.finished) }
+{
+    finish(plain, urb, ended);
+    code_in(enter(plain, SERVER, Event::Give { urb }))
+}
+
+// The handler submits the transfer with this number again, and rests it where that is refused. Answers what the gate says.
+fn resubmit(plain: &mut Plain, urb: UrbId, number: u64) -> Code
+    requires { urb.0 < urbs_of plain.old }
+    ensures counts { AsMany plain.old plain.new }
+    ensures resubmitted { Resubmitted plain.old plain.new urb.0 number result }
+{
+    let code = code_in(enter(plain, SERVER, Event::Submit { urb, number }));
+    if let Code::Fault(_) = code {
+        enter(plain, SERVER, Event::Rest { urb, number });
+        return code;
+    }
+    enter(plain, SERVER, Event::Link { urb });
+    code
+}
+
+// What the handler does: it submits the transfer with this number again, or rests it.
+fn act(plain: &mut Plain, urb: UrbId, again: bool, number: u64) -> Outcome
+    requires { urb.0 < urbs_of plain.old }
+    ensures counts { AsMany plain.old plain.new }
+    ensures acted { Acted plain.old plain.new urb.0 again number result }
+{
+    if again {
+        return Outcome::Again(resubmit(plain, urb, number));
+    }
+    enter(plain, SERVER, Event::Rest { urb, number });
+    Outcome::Rest
+}
+
+// Gives the URB back, whose transfer has this number and ended with a code or was unlinked, and runs its handler.
+// Answers the status, and what the handler did.
+fn give_back(
+    plain: &mut Plain,
+    urb: UrbId,
+    ended: Option<Code>,
+    again: bool,
+    number: u64,
+) -> (Code, Outcome)
+    requires { urb.0 < urbs_of plain.old }
+    ensures counts { AsMany plain.old plain.new }
+    ensures handled { Handled plain.old plain.new urb.0 ended again number result.0 result.1 }
+{
+    let status = give(plain, urb, ended);
+    let outcome = act(plain, urb, again, number);
+    enter(plain, SERVER, Event::End { urb });
+    (status, outcome)
+}
+
+impl LineRun<'_> {
+    /// Gives the URB back with its transfer, which ended with a code or was unlinked, and runs its handler.
+    pub fn bring_back(
+        &mut self,
+        alloc: Global,
+        urb: u32,
+        ended: Option<Code>,
+        t: Transfer,
+    ) -> Result<(), Memory>
+        requires known { urb < urbs_of self.old.plain }
+        requires there { urb < length self.old.urbs.items }
+        requires home { (row : UrbRow) → slice_get self.old.urbs.items urb ≡ Some row → row.home < length self.old.ends.items }
+        requires window { HasWindow t }
+        ensures back { IfOk result (λ _. GaveBack self.old self.new urb ended t) }
+    {
+        let row = &self.urbs[urb as usize];
+        let (home, again) = (row.home, row.again);
+        let (status, outcome) = give_back(&mut self.plain, UrbId(urb), ended, again > 0, t.number);
+        let shape = self.ends[home as usize].shape;
+        let bytes = brought(alloc, &shape, &t)?;
+        self.ends[home as usize].received.note(&shape, &t)?;
+        self.given.push(Given {
+            urb,
+            status,
+            actual: t.actual,
+            outcome,
+            bytes,
+        })?;
+        self.urbs[urb as usize] = UrbRow {
+            home,
+            again: again.saturating_sub(1),
+            transfer: left_with(outcome, t),
+        };
+        Ok(())
+    }
+}

@@ -1,0 +1,70 @@
+//! The run of a scene in line order.
+ghost use Rattle.std.specs.Prelude.{◌≡◌, [], map, length, IfOk};
+ghost use Rattle.usb_scene.specs.WellFormed.{IsWellFormed};
+ghost use Rattle.usb_line.specs.Prepared.{calls_of};
+ghost use Rattle.usb_line.specs.Calls.{IsUnderway};
+ghost use Rattle.usb_line.specs.Outcome.{received_at, IsOutcome};
+
+use crate::made::{CallMade, Given};
+use crate::prepare::opening;
+use crate::run::{EndReceived, EndRow, LineRun};
+use crate::thread::main_pass_of;
+use std::alloc::Global;
+use usb_scene::Scene;
+use usb_types::{List, Memory};
+
+/// What a run leaves for its report.
+#[derive(Drop)]
+pub struct LineOutcome {
+    pub made: List<CallMade>,
+    pub given: List<Given>,
+    /// Of each endpoint, by its number.
+    pub ends: List<EndReceived>,
+}
+
+// What each endpoint acknowledged.
+fn received(alloc: Global, ends: Vec<EndRow<'_>>) -> Result<List<EndReceived>, Memory>
+    ensures { IfOk result (λ list. list ≡ map received_at ends.entry.items) }
+{
+    let mut list = List::of(Vec::new(alloc));
+    for end in ends {
+        list.push(EndReceived {
+            shape: end.shape,
+            received: end.received,
+        })?;
+    }
+    Ok(list)
+}
+
+// Makes the calls of all threads, one thread after another, and adds each with its answer.
+fn make_calls(
+    alloc: Global,
+    scene: &Scene,
+    run: &mut LineRun<'_>,
+    made: &mut List<CallMade>,
+) -> Result<(), Memory>
+    requires good { IsWellFormed scene.now }
+    requires underway { IsUnderway scene.now [] run.old made.old }
+    ensures { IfOk result (λ _. IsUnderway scene.now (calls_of scene.now) run.new made.new) }
+{
+    for (i, thread) in scene.threads.items().iter().enumerate() {
+        run.make_all(alloc, scene, i as u32, thread.calls.items(), made)?;
+    }
+    Ok(())
+}
+
+/// Makes the calls of a scene one after another, and closes.
+pub fn run_line(alloc: Global, scene: &Scene) -> Result<LineOutcome, Memory>
+    requires { IsWellFormed scene.now }
+    ensures { IfOk result (IsOutcome scene.now) }
+{
+    let mut run = opening(alloc, scene)?;
+    let mut made = List::of(Vec::new(alloc));
+    make_calls(alloc, scene, &mut run, &mut made)?;
+    run.close(alloc, main_pass_of(scene))?;
+    Ok(LineOutcome {
+        made,
+        given: run.given,
+        ends: received(alloc, run.ends)?,
+    })
+}

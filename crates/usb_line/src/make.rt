@@ -1,0 +1,72 @@
+//! The calls of a run in line order, one after another.
+ghost use Rattle.std.specs.Prelude.{◌≡◌, ◌<◌, ◌+◌, ◌++◌, map, take, length, IfOk};
+ghost use Rattle.usb_scene.specs.WellFormed.{IsWellFormed};
+ghost use Rattle.usb_line.specs.Line.{Progress};
+ghost use Rattle.usb_line.specs.Prepared.{calls_from};
+ghost use Rattle.usb_line.specs.Calls.{MayBeMade, CanBeMade, Made, IsUnderway};
+
+use crate::made::{CallAnswer, CallMade, Deed};
+use crate::run::LineRun;
+use crate::thread::{deed_in, pass_of_thread};
+use std::alloc::Global;
+use usb_scene::{Call, Scene};
+use usb_types::{List, Memory, UrbId};
+
+impl LineRun<'_> {
+    // Makes one call of a thread. Answers what the call answers.
+    fn make(
+        &mut self,
+        alloc: Global,
+        scene: &Scene,
+        thread: u32,
+        call: &Call,
+    ) -> Result<CallAnswer, Memory>
+        requires { CanBeMade scene.now thread call.now self.old }
+        ensures { IfOk result (λ told. (f : Progress) → MayBeMade scene.now f thread call.now self.old → Made scene.now f thread call.now told self.new) }
+    {
+        let pass = pass_of_thread(scene, thread);
+        match deed_in(call) {
+            Deed::Submit(urb) => {
+                let row = &scene.urbs.items()[urb as usize];
+                self.submit(alloc, pass, UrbId(urb), row, call)
+            }
+            Deed::Unlink(urb) => Ok(self.unlink(pass, UrbId(urb))),
+            Deed::Kill(urb) => self.kill(alloc, pass, UrbId(urb)),
+            Deed::Poison(urb) => self.poison(alloc, pass, UrbId(urb)),
+            Deed::Unpoison(urb) => Ok(self.unpoison(pass, UrbId(urb))),
+            Deed::Block(urb) => Ok(self.block(pass, UrbId(urb))),
+            Deed::Unblock(urb) => Ok(self.unblock(pass, UrbId(urb))),
+            Deed::Serve => self.serve_all(alloc),
+            Deed::Down => self.take_down(alloc),
+            Deed::Up => Ok(self.bring_up()),
+            Deed::Other => Ok(CallAnswer::Nothing),
+        }
+    }
+
+    /// Makes a thread's calls in order, and adds each with its answer.
+    pub fn make_all(
+        &mut self,
+        alloc: Global,
+        scene: &Scene,
+        thread: u32,
+        calls: &[Call],
+        made: &mut List<CallMade>,
+    ) -> Result<(), Memory>
+        requires good { IsWellFormed scene.now }
+        requires there { thread < length scene.now.threads }
+        requires script { calls_from 0 (take (thread + 1) scene.now.threads) ≡ calls_from 0 (take thread scene.now.threads) ++ map (λ call. (thread, call)) calls.now }
+        requires underway { IsUnderway scene.now (calls_from 0 (take thread scene.now.threads)) self.old made.old }
+        ensures { IfOk result (λ _. IsUnderway scene.now (calls_from 0 (take (thread + 1) scene.now.threads)) self.new made.new) }
+    {
+        for call in calls {
+            let answer = self.make(alloc, scene, thread, call)?;
+            made.push(CallMade {
+                thread,
+                line: call.line,
+                deed: deed_in(call),
+                answer,
+            })?;
+        }
+        Ok(())
+    }
+}

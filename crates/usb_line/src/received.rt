@@ -1,0 +1,69 @@
+//! What a transfer leaves for the report when it comes back.
+ghost use Rattle.std.specs.Prelude.{◌≡◌, IfOk, OnOk};
+ghost use Rattle.usb_machine.specs.Shapes.{HasWindow};
+ghost use Rattle.usb_line.specs.Given.{moved_bytes, brought_bytes, sent_bytes};
+ghost use Rattle.usb_line.specs.Back.{left_by, Adds};
+
+use crate::made::Outcome;
+use crate::run::Received;
+use std::alloc::Global;
+use usb_machine::{Shape, Transfer};
+use usb_types::{Buf, Code, Memory};
+use usb_xfer::is_in;
+
+// The bytes that were moved.
+fn moved(t: &Transfer) -> &[u8]
+    requires { HasWindow t.now }
+    ensures { result.now ≡ moved_bytes t.now }
+{
+    let from = t.from as usize;
+    &t.buf.bytes()[from..from + t.actual as usize]
+}
+
+/// The bytes that an IN transfer brings. Where there are none, no memory is taken.
+pub fn brought(alloc: Global, shape: &Shape, t: &Transfer) -> Result<Buf, Memory>
+    requires { HasWindow t.now }
+    ensures { IfOk result (λ bytes. bytes ≡ brought_bytes shape.now t.now) }
+{
+    let mut bytes = Buf::of(Vec::new(alloc));
+    if !is_in(shape.address) {
+        return Ok(bytes);
+    }
+    bytes.append(moved(t))?;
+    Ok(bytes)
+}
+
+/// What a handler leaves with its URB of the transfer that came back.
+pub fn left_with(outcome: Outcome, mut t: Transfer) -> Option<Transfer>
+    ensures { result ≡ left_by outcome t }
+{
+    match outcome {
+        Outcome::Again(Code::Zero) => {
+            t.actual = 0;
+            Some(t)
+        }
+        _ => None,
+    }
+}
+
+impl Received {
+    // Adds bytes that were acknowledged.
+    fn add(&mut self, bytes: &[u8]) -> Result<(), Memory>
+        ensures { OnOk result (Adds self.old self.new bytes.now) }
+    {
+        self.count = self.count.saturating_add(bytes.len() as u64);
+        let room = 64usize.saturating_sub(self.first.bytes().len());
+        self.first.append(&bytes[..room.min(bytes.len())])
+    }
+
+    /// Adds what an OUT endpoint acknowledged of a transfer.
+    pub fn note(&mut self, shape: &Shape, t: &Transfer) -> Result<(), Memory>
+        requires { HasWindow t.now }
+        ensures { OnOk result (Adds self.old self.new (sent_bytes shape.now t.now)) }
+    {
+        if is_in(shape.address) {
+            return Ok(());
+        }
+        self.add(moved(t))
+    }
+}

@@ -1,0 +1,53 @@
+//! A run in line order, as far as it has come.
+
+use crate::made::Given;
+use crate::script::EndScript;
+use usb_machine::{Plain, Shape, Transfer};
+use usb_types::{Buf, List};
+
+/// An URB of a run.
+#[derive(Drop)]
+pub struct UrbRow {
+    /// The number of its endpoint.
+    pub home: u32,
+    /// How often its handler still submits again.
+    pub again: u32,
+    /// Where it is queued, its transfer, as it was moved so far.
+    pub transfer: Option<Transfer>,
+}
+
+/// What an OUT endpoint acknowledged, in the transfers that came back.
+#[derive(Drop)]
+pub struct Received {
+    /// How many bytes, at most `u64::MAX`.
+    pub count: u64,
+    /// The first 64 of them.
+    pub first: Buf,
+}
+
+/// What an endpoint acknowledged.
+#[derive(Drop)]
+pub struct EndReceived {
+    pub shape: Shape,
+    pub received: Received,
+}
+
+/// An endpoint of a run.
+#[derive(Drop)]
+pub struct EndRow<'a> {
+    pub shape: Shape,
+    pub script: EndScript<'a>,
+    pub asleep: bool,
+    pub received: Received,
+}
+
+/// A run in line order, as far as it has come.
+#[derive(Drop)]
+pub struct LineRun<'a> {
+    pub plain: Plain,
+    pub ends: Vec<EndRow<'a>>,
+    pub urbs: Vec<UrbRow>,
+    pub given: List<Given>,
+    /// Whether the host is down.
+    pub down: bool,
+}

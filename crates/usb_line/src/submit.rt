@@ -1,0 +1,147 @@
+//! The submits of a run in line order.
+ghost use Rattle.std.specs.Prelude.{◌≡◌, ◌<◌, ◌++◌, [], ℕ, List, length, slice_get, replicate, Some, IfOk};
+ghost use Rattle.usb_machine.specs.declared.entry.Entry.{Entry};
+ghost use Rattle.usb_machine.specs.declared.transfer.Transfer.{Transfer};
+ghost use Rattle.usb_machine.specs.Shapes.{shape_fault as fault_of};
+ghost use Rattle.usb_machine.specs.State.{refusal};
+ghost use Rattle.usb_machine.specs.History.{state_of};
+ghost use Rattle.usb_machine.specs.Calls.{submit_entries};
+ghost use Rattle.usb_machine.specs.Plain.{Stands, urbs_of};
+ghost use Rattle.usb_scene.specs.declared.scene.Scene.{Scene};
+ghost use Rattle.usb_scene.specs.WellFormed.{IsBuffer, IsWellFormed};
+ghost use Rattle.usb_line.specs.declared.run.UrbRow.{UrbRow};
+ghost use Rattle.usb_line.specs.declared.made.Deed.TheVariants as deed;
+ghost use Rattle.usb_line.specs.Prepared.{machine_of, home, shape_at, buffer_of};
+ghost use Rattle.usb_line.specs.Line.{Progress};
+ghost use Rattle.usb_line.specs.Shows.{Shows};
+ghost use Rattle.usb_line.specs.Steps.{AsMany};
+ghost use Rattle.usb_line.specs.Calls.{MayMake, Made};
+ghost use Rattle.usb_line.specs.Sent.{sent_by, MayAsk, MaySend, Sent, Keeps, CanSubmit};
+
+use crate::made::CallAnswer;
+use crate::run::LineRun;
+use crate::steps::{code_in, enter};
+use std::alloc::Global;
+use usb_machine::{Event, Plain, Transfer, shape_fault};
+use usb_scene::{Call, SceneUrb};
+use usb_types::{Buf, Code, Errno, Memory, UrbId};
+
+// How many bytes a submit of the URB carries.
+fn size(said: &SceneUrb, call: &Call) -> u32
+    requires { IsBuffer call.now.bytes }
+    ensures { result ≡ length (buffer_of said.now.len call.now.bytes) }
+{
+    match &call.bytes {
+        Some(bytes) => bytes.bytes().len() as u32,
+        None => said.len,
+    }
+}
+
+// Some zero bytes.
+fn zeros(alloc: Global, len: u32) -> Result<Buf, Memory>
+    ensures { IfOk result (λ buf. buf ≡ replicate len 0) }
+{
+    match vec![in alloc; 0u8; len as usize] {
+        Ok(bytes) => Ok(Buf::of(bytes)),
+        Err(_) => Err(Memory),
+    }
+}
+
+// What a submit of the URB carries: the bytes of the call, and without such bytes zeros.
+fn buffer(alloc: Global, said: &SceneUrb, call: &Call) -> Result<Buf, Memory>
+    ensures { IfOk result (λ buf. buf ≡ buffer_of said.now.len call.now.bytes) }
+{
+    match &call.bytes {
+        Some(bytes) => {
+            let mut buf = Buf::of(Vec::new(alloc));
+            buf.append(bytes.bytes())?;
+            Ok(buf)
+        }
+        None => zeros(alloc, said.len),
+    }
+}
+
+// The transfer that a submit of the URB sends, without its bytes.
+fn header(alloc: Global, said: &SceneUrb, call: &Call) -> Transfer
+    requires { IsBuffer call.now.bytes }
+    ensures { result ≡ record (sent_by said.now call.now) { buf = [] } }
+{
+    Transfer {
+        setup: call.setup,
+        buf: Buf::of(Vec::new(alloc)),
+        from: 0,
+        len: size(said, call),
+        short_not_ok: said.short,
+        actual: 0,
+        number: call.line as u64,
+    }
+}
+
+// Asks the gate, and links the URB where it was accepted. Answers what the gate says.
+fn ask(plain: &mut Plain, pass: u32, urb: UrbId, number: u64) -> Code
+    requires { urb.0 < urbs_of plain.old }
+    ensures counts { AsMany plain.old plain.new }
+    ensures asked { (s : Scene) (h : List Entry) (t : Transfer) → Stands plain.old (machine_of s) h → MayAsk s h pass urb.0 t → t.number ≡ number
+        → (result ≡ refusal (state_of h urb.0)) × Stands plain.new (machine_of s) (h ++ submit_entries pass urb.0 t result) }
+{
+    let code = code_in(enter(plain, pass, Event::Submit { urb, number }));
+    if let Code::Fault(_) = code {
+        return code;
+    }
+    enter(plain, pass, Event::Link { urb });
+    code
+}
+
+impl LineRun<'_> {
+    // Why the URB's endpoint does not take the transfer, if it does not.
+    fn fault(&self, urb: UrbId, t: &Transfer) -> Option<Errno>
+        requires there { urb.0 < length self.now.urbs.items }
+        requires home { (row : UrbRow) → slice_get self.now.urbs.items urb.0 ≡ Some row → row.home < length self.now.ends.items }
+        ensures { (s : Scene) (f : Progress) → Shows s f self.now → result ≡ fault_of (shape_at s (home s urb.0)) t.now }
+    {
+        let home = self.urbs[urb.0 as usize].home;
+        shape_fault(&self.ends[home as usize].shape, t)
+    }
+
+    // Keeps the transfer in the URB's row.
+    fn keep(&mut self, urb: UrbId, t: Transfer)
+        requires { urb.0 < length self.old.urbs.items }
+        ensures { Keeps self.old self.new urb.0 t }
+    {
+        self.urbs[urb.0 as usize].transfer = Some(t);
+    }
+
+    // Sends the transfer, and keeps it where the gate accepted it. Answers what the gate says.
+    fn send(&mut self, pass: u32, urb: UrbId, t: Transfer) -> Code
+        requires known { urb.0 < urbs_of self.old.plain }
+        requires there { urb.0 < length self.old.urbs.items }
+        ensures { (s : Scene) (f : Progress) → MaySend s f self.old pass urb.0 t → Sent s f pass urb.0 t result self.new }
+    {
+        let code = ask(&mut self.plain, pass, urb, t.number);
+        if let Code::Fault(_) = code {
+            return code;
+        }
+        self.keep(urb, t);
+        code
+    }
+
+    /// Submits the URB by a call, where its endpoint takes the transfer. No memory is taken for one that it does not take.
+    pub fn submit(
+        &mut self,
+        alloc: Global,
+        pass: u32,
+        urb: UrbId,
+        said: &SceneUrb,
+        call: &Call,
+    ) -> Result<CallAnswer, Memory>
+        requires { CanSubmit self.old pass urb.0 said.now call.now }
+        ensures { IfOk result (λ told. (s : Scene) (f : Progress) (i : ℕ) → MayMake s f i call.now self.old pass (deed.Submit urb.0) → slice_get s.urbs urb.0 ≡ Some said.now → Made s f i call.now told self.new) }
+    {
+        let mut t = header(alloc, said, call);
+        if let Some(errno) = self.fault(urb, &t) {
+            return Ok(CallAnswer::Code(Code::Fault(errno)));
+        }
+        t.buf = buffer(alloc, said, call)?;
+        Ok(CallAnswer::Code(self.send(pass, urb, t)))
+    }
+}
