@@ -1,8 +1,8 @@
 -- The text of one thread more.
 use Rattle.std.proofs.Common.{ℕ, zero, suc, ◌≡◌, ◌+◌, ◌<◌, List, [], ◌∷◌, ◌++◌, length, take, get_or, sym, ap, ◌∙◌, arith, append-nil, append_assoc, add-zero, add-one}
-use Rattle.usb_run.specs.declared.scene.Scene.{Scene}
-use Rattle.usb_run.specs.declared.scene.SceneThread.{SceneThread}
-use Rattle.usb_run.specs.declared.made.CallMade.{CallMade}
+use Rattle.usb_scene.specs.declared.scene.Scene.{Scene}
+use Rattle.usb_scene.specs.declared.scene.SceneThread.{SceneThread}
+use Rattle.usb_line.specs.declared.made.CallMade.{CallMade}
 use Rattle.usb_run.specs.Report.{thread_text, threads_from}
 
 module _ (s : Scene) (made : List CallMade) where

@@ -1,7 +1,7 @@
 -- The number that the process ends with.
 use Rattle.std.specs.Prelude.{ℕ}
 use Rattle.usb_run.specs.declared.status.Status.{Status}
-use Rattle.usb_run.specs.declared.status.Status.TheVariants.{Done, ReadFault, WriteFault, BadWords, BadScene, Memory}
+use Rattle.usb_run.specs.declared.status.Status.TheVariants.{Done, ReadFault, WriteFault, BadWords, BadScene, TooLong, Memory}
 
 abbrev pub number_of : Status → ℕ
 number_of Done = 0
@@ -9,4 +9,5 @@ number_of ReadFault = 1
 number_of WriteFault = 2
 number_of BadWords = 3
 number_of (BadScene line cause) = 4
+number_of TooLong = 5
 number_of Memory = 6

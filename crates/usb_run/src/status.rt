@@ -4,13 +4,7 @@ ghost use Rattle.usb_run.specs.Status.{number_of};
 
 use std::fmt;
 use std::fmt::Display;
-
-/// Why a line of a scene is bad.
-#[derive(Clone, Copy, Debug, PartialEq, Eq)]
-pub enum Cause {
-    /// The text is no scene. The place of the fault is not looked for, and line 1 stands for it.
-    Form,
-}
+use usb_scene::Cause;
 
 /// How the program ended.
 #[derive(Clone, Copy, Debug, PartialEq, Eq)]
@@ -23,8 +17,10 @@ pub enum Status {
     WriteFault,
     /// The words of the command line are not in the word grammar.
     BadWords,
-    /// The input is no scene.
+    /// The input is no scene: its first bad line, counted from 1, and the first cause against it.
     BadScene { line: u32, cause: Cause },
+    /// The input is longer than a scene may be.
+    TooLong,
     /// Memory ran out.
     Memory,
 }
@@ -40,15 +36,8 @@ impl Status {
             Status::WriteFault => 2,
             Status::BadWords => 3,
             Status::BadScene { .. } => 4,
+            Status::TooLong => 5,
             Status::Memory => 6,
-        }
-    }
-}
-
-impl Display for Cause {
-    fn fmt<W: fmt::Write>(&self, f: &mut fmt::Formatter<W>) -> fmt::Result {
-        match *self {
-            Cause::Form => write!(f, "Form"),
         }
     }
 }
@@ -62,6 +51,7 @@ impl Display for Status {
             Status::WriteFault => write!(f, "usbrun: write fault"),
             Status::BadWords => write!(f, "usbrun: bad words"),
             Status::BadScene { line, cause } => write!(f, "usbrun: line {line}: {cause}"),
+            Status::TooLong => write!(f, "usbrun: too long"),
             Status::Memory => write!(f, "usbrun: no memory"),
         }
     }

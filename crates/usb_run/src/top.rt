@@ -1,40 +1,39 @@
 //! The program as one call.
-ghost use Rattle.std.specs.Prelude.{◌≡◌, ◌↔◌, ◌⊎◌, ◌≤◌, ◌++◌, ℕ, List, OnOk, Some, None, Ok, map, length, string_bytes};
-ghost use Rattle.std.specs.Io.KnownBytes.{Keeps};
+ghost use Rattle.std.specs.Prelude.{◌≡◌, ◌↔◌, ◌⊎◌, ◌≤◌, ◌<◌, ◌++◌, ℕ, List, OnOk, Some, None, Ok, Err, map, length, string_bytes};
 ghost use Rattle.usb_types.specs.Causes.{Rose};
-ghost use Rattle.usb_run.specs.declared.scene.Scene.{Scene};
+ghost use Rattle.usb_scene.specs.declared.scene.Scene.{Scene};
+ghost use Rattle.usb_scene.specs.declared.cause.Cause.{Cause};
+ghost use Rattle.usb_scene.specs.Read.{scene_of};
+ghost use Rattle.usb_scene.specs.WellFormed.{IsWellFormed};
 ghost use Rattle.usb_run.specs.Io.{ReadsTooMany};
-ghost use Rattle.usb_run.specs.Read.{scene_of};
-ghost use Rattle.usb_run.specs.WellFormed.{IsWellFormed};
 ghost use Rattle.usb_run.specs.Words.{command_of};
-ghost use Rattle.usb_run.specs.Top.{AddsReport, IsNoScene, RanSerial, RanInPart, ReadNoScene};
+ghost use Rattle.usb_run.specs.Top.{AddsReport, RanSerial, RanInPart, ReadNoScene};
 
 use crate::command::{Command, read_command};
 use crate::input::{INPUT_LIMIT, Stop, read_input};
-use crate::line::run_line;
 use crate::output::write_output;
-use crate::read::{SceneFault, read_scene};
 use crate::report::push_report;
-use crate::scene::Scene;
-use crate::status::{Cause, Status};
+use crate::status::Status;
 use std::alloc::Global;
 use std::sync::Wait;
 use std::thread::Threads;
+use usb_line::run_line;
+use usb_scene::{Scene, SceneFault, read_scene};
 use usb_types::{Buf, Gate, Memory, Sink, Source};
 
-/// The one answer to a text that is no scene.
-const NO_SCENE: Status = Status::BadScene {
-    line: 1,
-    cause: Cause::Form,
-};
-
 /// Adds the report of the scene's run in line order. After want of memory the report holds some prefix.
-fn serial(alloc: Global, scene: &Scene, report: &mut Buf) -> Result<(), Memory>
+pub fn serial(alloc: Global, scene: &Scene, report: &mut Buf) -> Result<(), Memory>
     requires { IsWellFormed scene.now }
     ensures { OnOk result (AddsReport scene.now report.old report.new) }
 {
     let outcome = run_line(alloc, scene)?;
-    push_report(report, scene, outcome.made.items(), outcome.given.items())?;
+    push_report(
+        report,
+        scene,
+        outcome.made.items(),
+        outcome.given.items(),
+        outcome.ends.items(),
+    )?;
     Ok(())
 }
 
@@ -61,14 +60,17 @@ pub fn usbrun<R: Threads + Wait + Sync, S: Source, K: Sink, G: Gate + Sync>(
     ensures bad_words { (result ≡ Status.BadWords) ↔ (command_of (map string_bytes words.now) ≡ None) }
     ensures nothing_read { result ≡ Status.BadWords → input.new ≡ input.old }
 
-    // An input is refused that is no scene, or longer than a scene may be.
+    // An input is refused that is no scene, with its first bad line and the first cause against it, or that is too long.
     ensures bad_scene { (line : ℕ) (cause : Cause) → result ≡ Status.BadScene line cause →
-        ReadNoScene (S.left input.old) (S.left input.new)
-        ⊎ ((bytes : List ℕ) × ReadsTooMany (S.left input.old) (S.left input.new) bytes) }
-    ensures bad_line { (line : ℕ) (cause : Cause) → result ≡ Status.BadScene line cause → (line ≡ 1) × (cause ≡ Cause.Form) }
+        ReadNoScene (S.left input.old) (S.left input.new) line cause }
+    ensures too_long { result ≡ Status.TooLong →
+        (bytes : List ℕ) × ReadsTooMany (S.left input.old) (S.left input.new) bytes }
 
-    ensures no_scene { (bytes : List ℕ) → command_of (map string_bytes words.now) ≡ Some Command.Serial → S.left input.old ≡ Some bytes →
-        IsNoScene bytes → (result ≡ Status.BadScene 1 Cause.Form) ⊎ (result ≡ Status.ReadFault) ⊎ (result ≡ Status.Memory) }
+    ensures no_scene { (bytes : List ℕ) (line : ℕ) (cause : Cause) → command_of (map string_bytes words.now) ≡ Some Command.Serial → S.left input.old ≡ Some bytes →
+        length bytes ≤ INPUT_LIMIT → scene_of bytes ≡ Err (line, cause) →
+        (result ≡ Status.BadScene line cause) ⊎ (result ≡ Status.ReadFault) ⊎ (result ≡ Status.Memory) }
+    ensures longer { (bytes : List ℕ) → command_of (map string_bytes words.now) ≡ Some Command.Serial → S.left input.old ≡ Some bytes →
+        INPUT_LIMIT < length bytes → (result ≡ Status.TooLong) ⊎ (result ≡ Status.ReadFault) ⊎ (result ≡ Status.Memory) }
 
     // A scene between ends that do not fail is run, unless memory runs out.
     ensures complete { (bytes : List ℕ) (scene : Scene) → command_of (map string_bytes words.now) ≡ Some Command.Serial → S.left input.old ≡ Some bytes →
@@ -86,12 +88,12 @@ pub fn usbrun<R: Threads + Wait + Sync, S: Source, K: Sink, G: Gate + Sync>(
     let bytes = match read_input(alloc, input) {
         Ok(bytes) => bytes,
         Err(Stop::Failed) => return Status::ReadFault,
-        Err(Stop::TooLong) => return NO_SCENE,
+        Err(Stop::TooLong) => return Status::TooLong,
         Err(Stop::Memory) => return Status::Memory,
     };
     let scene = match read_scene(alloc, bytes.bytes()) {
         Ok(scene) => scene,
-        Err(SceneFault::Bad { .. }) => return NO_SCENE,
+        Err(SceneFault::Bad { line, cause }) => return Status::BadScene { line, cause },
         Err(SceneFault::Memory) => return Status::Memory,
     };
     let mut report = Buf::of(Vec::new(alloc));

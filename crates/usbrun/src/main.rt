@@ -9,8 +9,6 @@ use usb_run::{Status, usbrun};
 use usb_types::{Free, StdSink, StdSource};
 
 #[cfg(test)]
-mod machine_tests;
-#[cfg(test)]
 mod tests;
 
 // The words behind the program's name. Where one is no text there are none, which is no command.

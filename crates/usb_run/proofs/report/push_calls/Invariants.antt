@@ -1,6 +1,6 @@
 use Rattle.std.proofs.Common.{◌≡◌, ◌++◌, take}
 use Rattle.std.specs.List.{flat_map}
-use Rattle.usb_run.specs.Run.{made_by}
+use Rattle.usb_run.specs.Report.{made_by}
 use Rattle.usb_run.specs.Report.{made_text}
 use Rattle.usb_run.proofs.report.push_calls.Given as goal
 

@@ -1,7 +1,0 @@
-use Rattle.std.proofs.Common.{sym, subst}
-use Rattle.usb_machine.specs.Plain.{IsLayout}
-use Rattle.usb_run.proofs.Preparing.{layout_fits}
-use Rattle.usb_run.proofs.prepare.opening.Goals as goal
-
-pub new-requires-clause-layout : goal.new-requires-clause-layout
-new-requires-clause-layout c = subst IsLayout (sym c.in_ok-layout.ensures) (layout_fits c.args.scene.now c.requires)

@@ -1,0 +1,131 @@
+//! Limits of a scene, at them and one past them.
+use crate::tests::calling::{GOOD, check_fault, ended, joined};
+use std::alloc::Global;
+use std::process::Abort;
+use std::sync::Wait;
+use std::test::Fail;
+use std::thread::Threads;
+use usb_run::Status;
+
+const END: &str = "scene 1\ndevice d raw\nep 81 bulk 64 0\n";
+
+// A text with this line so many times behind a front, each with its number behind the line's first part.
+fn numbered(
+    alloc: Global,
+    front: &str,
+    first: &str,
+    rest: &str,
+    times: u32,
+) -> Result<Vec<u8>, Fail> {
+    let mut text = front.as_bytes().to_vec(alloc)?;
+    for i in 0..times {
+        let line = format!(in alloc; "{first}{i}{rest}\n")?;
+        text.extend_from_slice(line.as_bytes())?;
+    }
+    Ok(text)
+}
+
+// A text with this piece so many times behind a front, and a back.
+fn repeated(
+    alloc: Global,
+    front: &str,
+    piece: &str,
+    times: u32,
+    back: &str,
+) -> Result<Vec<u8>, Fail> {
+    let mut text = front.as_bytes().to_vec(alloc)?;
+    for _ in 0..times {
+        text.extend_from_slice(piece.as_bytes())?;
+    }
+    text.extend_from_slice(back.as_bytes())?;
+    Ok(text)
+}
+
+fn check_done<R: Abort + AllocGlobal + Threads + Wait + Sync>(
+    rt: &R,
+    scene: Vec<u8>,
+) -> Result<(), Fail> {
+    let (status, _) = ended(rt, rt.alloc(), &["serial"], scene, GOOD)?;
+    assert_eq!(rt; status, Status::Done);
+    Ok(())
+}
+
+#[test]
+fn so_many_things_may_be_declared(rt: HostRuntime) -> Result<(), Fail> {
+    let alloc = rt.alloc();
+    check_done(&rt, numbered(alloc, "scene 1\n", "device d", " raw", 16)?)?;
+    check_fault(
+        &rt,
+        numbered(alloc, "scene 1\n", "device d", " raw", 17)?,
+        "18: Limit",
+    )?;
+    check_done(&rt, numbered(alloc, END, "urb u", " d 81", 256)?)?;
+    check_fault(
+        &rt,
+        numbered(alloc, END, "urb u", " d 81", 257)?,
+        "260: Limit",
+    )?;
+    check_done(&rt, numbered(alloc, "scene 1\n", "thread t", "", 16)?)?;
+    check_fault(
+        &rt,
+        numbered(alloc, "scene 1\n", "thread t", "", 17)?,
+        "18: Limit",
+    )
+}
+
+#[test]
+fn so_many_items_and_calls_may_stand(rt: HostRuntime) -> Result<(), Fail> {
+    let alloc = rt.alloc();
+    let answer = "scene 1\ndevice d raw\nep 81 bulk 64 0\nanswer 81";
+    let block = "scene 1\ndevice d raw\nep 81 bulk 64 0\nurb a d 81\nthread t\n";
+    check_done(&rt, repeated(alloc, answer, " 4096*nak", 16, "")?)?;
+    check_fault(
+        &rt,
+        repeated(alloc, answer, " 4096*nak", 16, "\nanswer 81 nak")?,
+        "5: Limit",
+    )?;
+    check_fault(
+        &rt,
+        repeated(alloc, answer, " 4096*nak", 17, "")?,
+        "4: Limit",
+    )?;
+    check_done(
+        &rt,
+        repeated(alloc, "scene 1\nthread t\n", "serve\n", 4096, "")?,
+    )?;
+    check_fault(
+        &rt,
+        repeated(
+            alloc,
+            "scene 1\nthread t\n",
+            "serve\n",
+            4096,
+            "thread u\nserve",
+        )?,
+        "4100: Limit",
+    )?;
+    check_done(&rt, repeated(alloc, block, "block a\n", 100, "")?)?;
+    check_fault(
+        &rt,
+        repeated(alloc, block, "block a\n", 101, "")?,
+        "106: Limit",
+    )?;
+    check_fault(
+        &rt,
+        repeated(alloc, block, "block a\n", 100, "poison a")?,
+        "106: Limit",
+    )
+}
+
+#[test]
+fn an_input_has_a_limit(rt: HostRuntime) -> Result<(), Fail> {
+    let alloc = rt.alloc();
+    for (size, wanted) in [(1_048_576, Status::Done), (1_048_577, Status::TooLong)] {
+        let mut scene = joined(alloc, "scene 1\n", "", "")?;
+        scene.resize(size, b' ')?;
+        let (status, text) = ended(&rt, alloc, &["serial"], scene, GOOD)?;
+        assert_eq!(rt; status, wanted);
+        assert_eq!(rt; text.len(), 0);
+    }
+    Ok(())
+}

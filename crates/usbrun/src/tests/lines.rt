@@ -1,0 +1,153 @@
+//! Lines that say something, lines that say nothing, and what some of them say.
+use std::alloc::Global;
+use std::process::Abort;
+use std::test::Fail;
+use usb_statement::{Statement, UrbName, UrbOption, read_keyword, read_statement};
+use usb_text::next_word;
+use usb_types::{Memory, Role};
+use usb_xfer::What;
+
+// What a line says.
+fn said(alloc: Global, line: &str) -> Result<Option<Statement>, Memory> {
+    let Some((word, behind)) = next_word(line.as_bytes()) else {
+        return Ok(None);
+    };
+    match read_keyword(word) {
+        Some(keyword) => read_statement(alloc, keyword, behind),
+        None => Ok(None),
+    }
+}
+
+#[test]
+fn good_lines(rt: HostRuntime) -> Result<(), Fail> {
+    let lines = [
+        "device d raw",
+        "ep 0f int 1024 255",
+        "ep 81 iso 999999999 0 # too large is another cause",
+        "answer 81 p: 2*p:0A0b 4096*nak stall error p:fill:1024:00",
+        "answer 01 ack 1*ack nak stall error",
+        "urb a d 81",
+        "urb a d 8F short again 3 len 20 len 20",
+        "thread t_1",
+        "submit a",
+        "submit a -",
+        "submit kbd.0.in 00 fill:16384:ff -",
+        "unlink kbd.007.ctl",
+        "kill a",
+        "poison a",
+        "unpoison a",
+        "block a",
+        "unblock a",
+        "\tserve ",
+        "down",
+        "up",
+    ];
+    for line in lines {
+        assert!(rt; said(rt.alloc(), line)?.is_some(), "{line}");
+    }
+    Ok(())
+}
+
+#[test]
+fn bad_lines(rt: HostRuntime) -> Result<(), Fail> {
+    let lines = [
+        "device d keyboard",
+        "device D raw",
+        "ep 00 bulk 64 0",
+        "ep 80 bulk 64 0",
+        "ep 81 ctrl 64 0",
+        "ep 81 bulk 1234567890 0",
+        "answer 81",
+        "answer 00 nak",
+        "answer 81 ack",
+        "answer 01 p:00",
+        "answer 81 0*nak",
+        "answer 81 4097*nak",
+        "answer 81 2*3*nak",
+        "answer 81 *nak",
+        "answer 81 p:-",
+        "answer 81 p:0",
+        "answer 81 p:fill:0:00",
+        "answer 81 p:fill:1025:00",
+        "urb a d 00",
+        "urb a d 81 len",
+        "urb a d 81 long 3",
+        "submit a 0",
+        "submit a fill:16385:00",
+        "submit a fill:1:0",
+        "submit a setup:8006000100000800",
+        "submit kbd..in",
+        "submit kbd.0.out",
+        "submit a.b",
+        "kill a b",
+        "serve a",
+        "scene 1",
+    ];
+    for line in lines {
+        assert!(rt; said(rt.alloc(), line)?.is_none(), "{line}");
+    }
+    Ok(())
+}
+
+#[test]
+fn items_have_counts_and_bytes(rt: HostRuntime) -> Result<(), Fail> {
+    let Some(Statement::Answer { address, items }) = said(
+        rt.alloc(),
+        "answer 8a nak 012*p:0aFf p:fill:3:07",
+    )?
+    else {
+        return Err("no answer line".into());
+    };
+    assert_eq!(rt; address, 0x8A);
+    match items.items() {
+        [nak, two, three] => {
+            assert_eq!(rt; nak.times, 1);
+            assert!(rt; matches!(nak.what, What::Nak));
+            assert_eq!(rt; two.times, 12);
+            assert!(rt;
+                matches!(&two.what, What::Packet(bytes) if bytes.bytes() == [0x0A, 0xFF].as_slice())
+            );
+            assert!(rt;
+                matches!(&three.what, What::Packet(bytes) if bytes.bytes() == [7, 7, 7].as_slice())
+            );
+        }
+        _ => return Err("not three items".into()),
+    }
+    Ok(())
+}
+
+#[test]
+fn options_stand_in_their_order(rt: HostRuntime) -> Result<(), Fail> {
+    let Some(Statement::Urb { options, .. }) = said(rt.alloc(), "urb a d 81 short len 8 again 2")?
+    else {
+        return Err("no URB line".into());
+    };
+    assert_eq!(rt;
+        options.items(),
+        [UrbOption::Short, UrbOption::Len(8), UrbOption::Again(2)].as_slice()
+    );
+    Ok(())
+}
+
+#[test]
+fn data_is_joined(rt: HostRuntime) -> Result<(), Fail> {
+    let Some(Statement::Submit { urb, bytes }) = said(
+        rt.alloc(),
+        "submit kbd.12.write 01 - fill:2:a5",
+    )?
+    else {
+        return Err("no submit line".into());
+    };
+    assert!(rt;
+        matches!(
+            urb,
+            UrbName::Driver {
+                number: 12,
+                role: Role::Write,
+                ..
+            }
+        )
+    );
+    assert!(rt; matches!(&bytes, Some(bytes) if bytes.bytes() == [1, 0xA5, 0xA5].as_slice()));
+    Ok(())
+}

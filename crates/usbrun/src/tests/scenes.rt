@@ -1,0 +1,146 @@
+//! Worked scenes with their reports.
+use crate::tests::calling::check_reports;
+use std::test::Fail;
+use usb_run::Status;
+
+#[test]
+fn an_urb_is_unlinked_killed_and_poisoned(rt: HostRuntime) -> Result<(), Fail> {
+    let rows = [
+        (
+            "scene 1\ndevice d raw\nep 81 bulk 64 0\nanswer 81 p:0102030405060708\nurb a d 81 len 8\nthread t\nsubmit a\nunlink a\nunlink a\nserve\nunlink a\n",
+            "thread t\n7 submit a 0\n8 unlink a -EINPROGRESS\n9 unlink a -EBUSY\n11 unlink a -EIDRM\ngiven\na -ECONNRESET 0 rest -\n",
+        ),
+        (
+            "scene 1\ndevice d raw\nep 81 bulk 64 0\nanswer 81 p:0102030405060708\nurb a d 81 len 8\nthread t\nsubmit a\nunlink a\nkill a\n",
+            "thread t\n7 submit a 0\n8 unlink a -EINPROGRESS\n9 kill a buffer 7\ngiven\na -ECONNRESET 0 rest -\n",
+        ),
+        (
+            "scene 1\ndevice d raw\nep 81 bulk 64 0\nanswer 81 p:0102030405060708\nurb a d 81 len 8\nthread t\npoison a\nsubmit a\nunpoison a\nsubmit a\n",
+            "thread t\n7 poison a none\n8 submit a -EPERM\n9 unpoison a ok\n10 submit a 0\ngiven\na -ENOENT 0 rest -\n",
+        ),
+        (
+            "scene 1\ndevice d raw\nep 81 bulk 64 0\nanswer 81 p:0102030405060708\nurb a d 81 len 8\nthread t\nblock a\nblock a\nunblock a\nsubmit a\nunblock a\nsubmit a\nserve\n",
+            "thread t\n7 block a ok\n8 block a ok\n9 unblock a ok\n10 submit a -EPERM\n11 unblock a ok\n12 submit a 0\ngiven\na 0 8 rest 0102030405060708\n",
+        ),
+        (
+            "scene 1\ndevice d raw\nep 81 bulk 64 0\nanswer 81 p:0102030405060708\nurb a d 81 len 8\nthread hub\ndown\nsubmit a\nup\nsubmit a\nserve\n",
+            "thread hub\n7 down ok\n8 submit a -ESHUTDOWN\n9 up ok\n10 submit a 0\ngiven\na 0 8 rest 0102030405060708\n",
+        ),
+    ];
+    check_reports(&rt, "", "", Status::Done, "", &rows)
+}
+
+#[test]
+fn packets_move_transfers_of_both_directions(rt: HostRuntime) -> Result<(), Fail> {
+    let rows = [
+        (
+            "scene 1\ndevice d raw\nep 81 bulk 64 0\nanswer 81 p:fill:64:11 p:fill:64:22 p:\nurb a d 81 len 128\nurb b d 81 len 64\nthread t\nsubmit a\nsubmit b\nserve\n",
+            "thread t\n8 submit a 0\n9 submit b 0\ngiven\na 0 128 rest 1111111111111111111111111111111111111111111111111111111111111111111111111111111111111111111111111111111111111111111111111111111122222222222222222222222222222222222222222222222222222222222222222222222222222222222222222222222222222222222222222222222222222222\nb 0 0 rest -\n",
+        ),
+        (
+            "scene 1\ndevice d raw\nep 81 bulk 64 0\nanswer 81 p:fill:64:33 p:fill:60:44\nurb a d 81 len 60\nurb b d 81 len 64 short\nthread t\nsubmit a\nsubmit b\nserve\n",
+            "thread t\n8 submit a 0\n9 submit b 0\ngiven\na -EOVERFLOW 0 rest -\nb -EREMOTEIO 60 rest 444444444444444444444444444444444444444444444444444444444444444444444444444444444444444444444444444444444444444444444444\n",
+        ),
+        (
+            "scene 1\ndevice d raw\nep 02 bulk 64 0\nurb o d 02\nthread t\nsubmit o 0A0B\nserve\n",
+            "thread t\n6 submit o 0\ngiven\no 0 2 rest -\nreceived\nd 02 2 0A0B\n",
+        ),
+    ];
+    check_reports(&rt, "", "", Status::Done, "", &rows)
+}
+
+#[test]
+fn a_reply_in_the_middle_ends_or_delays_a_transfer(rt: HostRuntime) -> Result<(), Fail> {
+    let rows = [
+        (
+            "scene 1\ndevice d raw\nep 81 bulk 64 0\nanswer 81 p:fill:64:11 stall p:fill:64:22\nurb a d 81 len 128\nthread t\nsubmit a\nserve\nserve\n",
+            "thread t\n7 submit a 0\ngiven\na -EPIPE 64 rest 11111111111111111111111111111111111111111111111111111111111111111111111111111111111111111111111111111111111111111111111111111111\n",
+        ),
+        (
+            "scene 1\ndevice d raw\nep 81 bulk 64 0\nanswer 81 p:fill:64:11 error p:fill:64:22\nurb a d 81 len 128\nthread t\nsubmit a\nserve\nserve\n",
+            "thread t\n7 submit a 0\ngiven\na -EPROTO 64 rest 11111111111111111111111111111111111111111111111111111111111111111111111111111111111111111111111111111111111111111111111111111111\n",
+        ),
+        (
+            "scene 1\ndevice d raw\nep 81 bulk 64 0\nanswer 81 p:fill:64:11 p:fill:65:33 p:fill:64:22\nurb a d 81 len 128\nthread t\nsubmit a\nserve\nserve\n",
+            "thread t\n7 submit a 0\ngiven\na -EOVERFLOW 64 rest 11111111111111111111111111111111111111111111111111111111111111111111111111111111111111111111111111111111111111111111111111111111\n",
+        ),
+        (
+            "scene 1\ndevice d raw\nep 81 bulk 64 0\nanswer 81 p:fill:64:11 nak p:fill:64:22\nurb a d 81 len 128\nthread t\nsubmit a\nserve\nserve\n",
+            "thread t\n7 submit a 0\ngiven\na 0 128 rest 1111111111111111111111111111111111111111111111111111111111111111111111111111111111111111111111111111111111111111111111111111111122222222222222222222222222222222222222222222222222222222222222222222222222222222222222222222222222222222222222222222222222222222\n",
+        ),
+    ];
+    check_reports(&rt, "", "", Status::Done, "", &rows)
+}
+
+#[test]
+fn the_gallery_of_one_submit(rt: HostRuntime) -> Result<(), Fail> {
+    let rows = [
+        (
+            "scene 1\ndevice d raw\nep 81 bulk 64 0\nanswer 81 p:0102030405060708\nurb a d 81 len 8\nthread t\nsubmit a\nserve\n",
+            "thread t\n7 submit a 0\ngiven\na 0 8 rest 0102030405060708\n",
+        ),
+        (
+            "# A second submit finds the URB queued.\nscene 1\ndevice d raw\nep 81 bulk 64 0\nanswer 81 p:0102030405060708\nurb a d 81 len 8\nthread t\nsubmit a\nsubmit a\nserve\n",
+            "thread t\n8 submit a 0\n9 submit a -EBUSY\ngiven\na 0 8 rest 0102030405060708\n",
+        ),
+        (
+            "# The device has nothing to send at first: the first serve ends with the URB still queued.\nscene 1\ndevice d raw\nep 82 bulk 4 0\nanswer 82 p:01020304 nak p:0506\nurb a d 82 len 16\nthread t\nsubmit a\nserve\nsubmit a\nserve\n",
+            "thread t\n8 submit a 0\n10 submit a -EBUSY\ngiven\na 0 6 rest 010203040506\n",
+        ),
+        (
+            "# A stall in the middle of a transfer, no answer, and a packet that is too long.\nscene 1\ndevice d raw\nep 83 bulk 4 0\nanswer 83 p:01020304 stall error p:0102030405\nurb a d 83 len 8\nthread t\nsubmit a\nserve\nsubmit a\nserve\nsubmit a\nserve\n",
+            "thread t\n8 submit a 0\n10 submit a 0\n12 submit a 0\ngiven\na -EPIPE 4 rest 01020304\na -EPROTO 0 rest -\na -EOVERFLOW 0 rest -\n",
+        ),
+    ];
+    check_reports(&rt, "", "", Status::Done, "", &rows)
+}
+
+#[test]
+fn the_gallery_of_calls(rt: HostRuntime) -> Result<(), Fail> {
+    let rows = [
+        (
+            "# An unlinked URB comes back first; a second unlink finds the mark, and one behind the giveback finds nothing.\nscene 1\ndevice d raw\nep 81 bulk 64 0\nanswer 81 p:01 p:02\nurb a d 81 len 8\nurb b d 81 len 8\nthread t\nsubmit a\nsubmit b\nunlink b\nunlink b\nserve\nunlink b\n",
+            "thread t\n9 submit a 0\n10 submit b 0\n11 unlink b -EINPROGRESS\n12 unlink b -EBUSY\n14 unlink b -EIDRM\ngiven\nb -ECONNRESET 0 rest -\na 0 1 rest 01\n",
+        ),
+        (
+            "# A kill waits until the URB is quiet, and answers the buffer that rests with it, once.\nscene 1\ndevice d raw\nep 81 bulk 64 0\nurb a d 81 len 8\nthread t\nkill a\nsubmit a\nkill a\nkill a\n",
+            "thread t\n7 kill a none\n8 submit a 0\n9 kill a buffer 8\n10 kill a none\ngiven\na -ENOENT 0 rest -\n",
+        ),
+        (
+            "# Poison and block each raise a reject; the URB is open when all of them are withdrawn.\nscene 1\ndevice d raw\nep 81 bulk 64 0\nurb a d 81 len 8\nthread t\npoison a\nsubmit a\nblock a\nunpoison a\nsubmit a\nunblock a\nsubmit a\npoison a\n",
+            "thread t\n7 poison a none\n8 submit a -EPERM\n9 block a ok\n10 unpoison a ok\n11 submit a -EPERM\n12 unblock a ok\n13 submit a 0\n14 poison a buffer 13\ngiven\na -ENOENT 0 rest -\n",
+        ),
+        (
+            "# The hub's thread takes the host down, and brings it up again; scripts are run in line order.\nscene 1\ndevice d raw\nep 81 bulk 64 0\nanswer 81 p:0102\nurb a d 81 len 8\nthread hub\nsubmit a\ndown\nsubmit a\ndown\nup\nup\nthread t\nsubmit a\nserve\n",
+            "thread hub\n8 submit a 0\n9 down ok\n10 submit a -ESHUTDOWN\n11 down -ESHUTDOWN\n12 up ok\n13 up ok\nthread t\n15 submit a 0\ngiven\na -ESHUTDOWN 0 rest -\na 0 2 rest 0102\n",
+        ),
+        (
+            "# A handler submits again as often as the scene says. A kill raises its reject first, so the handler is refused.\nscene 1\ndevice d raw\nep 81 bulk 64 0\nanswer 81 p:01 p:02 p:03\nurb a d 81 len 4 again 2\nurb b d 81 len 4 again 1\nthread t\nsubmit a\nserve\nsubmit b\nkill b\n",
+            "thread t\n9 submit a 0\n11 submit b 0\n12 kill b buffer 11\ngiven\na 0 1 again 0 01\na 0 1 again 0 02\na 0 1 rest 03\nb -ENOENT 0 again -EPERM -\n",
+        ),
+    ];
+    check_reports(&rt, "", "", Status::Done, "", &rows)
+}
+
+#[test]
+fn the_gallery_of_transfers(rt: HostRuntime) -> Result<(), Fail> {
+    let rows = [
+        (
+            "# Counted items, and the three spellings of bytes.\nscene 1\ndevice d raw\nep 8a int 4 1\nep 0b bulk 4 0\nanswer 8A 2*p:fill:4:0a p: 2*nak\nanswer 8A p:C0ffee\nanswer 0b 3*nak ack\nurb a d 8a len 12\nurb b d 0B\nthread t\nsubmit a\nsubmit b fill:2:5a - 01\nserve\nsubmit a 000000\nserve\nserve\nserve\n",
+            "thread t\n12 submit a 0\n13 submit b 0\n15 submit a 0\ngiven\na 0 8 rest 0A0A0A0A0A0A0A0A\na 0 3 rest C0FFEE\nb 0 3 rest -\nreceived\nd 0B 3 5A5A01\n",
+        ),
+        (
+            "# Fewer bytes than asked are a fault where the URB says `short`; endpoints that no submit can use answer why.\nscene 1\ndevice d raw\nep 81 bulk 64 0\nep 82 int 8 0\nep 83 iso 8 1\nep 84 bulk 0 0\nanswer 81 p:0102\nurb a d 81 len 8 short\nurb b d 82 len 8\nurb c d 83 len 8\nurb e d 84 len 8\nthread t\nsubmit a\nsubmit b\nsubmit c\nsubmit e\nserve\n",
+            "thread t\n14 submit a 0\n15 submit b -EINVAL\n16 submit c -EINVAL\n17 submit e -EMSGSIZE\ngiven\na -EREMOTEIO 2 rest 0102\n",
+        ),
+        (
+            "# Two OUT endpoints: one with a script, and one that takes what comes.\nscene 1\ndevice d raw\nep 02 bulk 4 0\nep 03 bulk 64 0\nanswer 02 ack nak 2*ack stall\nurb o d 02\nurb q d 03 len 3\nthread t\nsubmit o 010203040506\nserve\nserve\nsubmit o 0A0B0C 0D0E\nsubmit q\nserve\n",
+            "thread t\n10 submit o 0\n13 submit o 0\n14 submit q 0\ngiven\no 0 6 rest -\no -EPIPE 4 rest -\nq 0 3 rest -\nreceived\nd 02 10 0102030405060A0B0C0D\nd 03 3 000000\n",
+        ),
+        (
+            "# What waits at the end is killed, in the order of the urb lines, with what it has moved.\nscene 1\ndevice d raw\nep 81 bulk 4 0\nanswer 81 p:fill:4:11 nak\nurb a d 81 len 16\nurb b d 81 len 8\nthread t\nsubmit b\nsubmit a\nserve\n",
+            "thread t\n9 submit b 0\n10 submit a 0\ngiven\na -ENOENT 0 rest -\nb -ENOENT 4 rest 11111111\n",
+        ),
+    ];
+    check_reports(&rt, "", "", Status::Done, "", &rows)
+}
