@@ -2,3 +2,5 @@ pub mod Causes
 pub mod Codes
 pub mod Ends
 pub mod Lends
+pub mod Table
+pub mod Rows
