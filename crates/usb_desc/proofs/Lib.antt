@@ -1,0 +1,14 @@
+pub mod Lasts
+pub mod Cuts
+pub mod Reading
+pub mod Bytes
+pub mod Words
+pub mod Devices
+pub mod Parts
+pub mod Sound
+pub mod Found
+pub mod Again
+pub mod Whole
+pub mod Answered
+pub mod FirstFaults
+pub mod Examples
