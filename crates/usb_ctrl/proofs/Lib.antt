@@ -1,0 +1,2 @@
+pub mod Attachings
+pub mod Devices

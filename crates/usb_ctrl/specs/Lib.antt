@@ -1,0 +1,4 @@
+pub mod Setup
+pub mod Requests
+pub mod Enumeration
+pub mod Attaching
