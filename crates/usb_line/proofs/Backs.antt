@@ -15,8 +15,9 @@ use Rattle.usb_machine.specs.declared.transfer.Transfer.{Transfer}
 use Rattle.usb_machine.specs.declared.entry.Entry.{Entry}
 use Rattle.usb_machine.specs.History.{without, state_of, pending_of, sent_of}
 use Rattle.usb_machine.specs.Plain.{Stands}
-use Rattle.usb_xfer.specs.Direction.{Direction, In, Out, direction_of}
+use Rattle.usb_xfer.specs.Direction.{Direction, In, Out, ControlIn, ControlOut, direction_of}
 use Rattle.usb_xfer.specs.Replies.{Reply}
+use Rattle.usb_xfer.specs.Input.{with_bytes}
 use Rattle.usb_xfer.specs.Moved.{moved, moved_by, IsOpen}
 use Rattle.usb_scene.specs.declared.scene.Scene.{Scene}
 use Rattle.usb_line.specs.declared.made.Outcome.{Outcome}
@@ -39,18 +40,23 @@ use Rattle.usb_line.proofs.Returning.{left, left_at, left_else, rounds-push, sti
 use Rattle.usb_line.proofs.Lookups.{each_set}
 
 -- no reply moves a transfer that has moved nothing
-nothing_moved_by : (d : Direction) (max : ℕ) (t : Transfer) → t.actual ≡ 0 → t ≡ moved_by d max t []
-nothing_moved_by In max t a = (λ i. record t { buf = same i; actual = a i })
+no_bytes : (t : Transfer) → t.actual ≡ 0 → t ≡ with_bytes t []
+no_bytes t a = (λ i. record t { buf = same i; actual = a i })
   where
     same : t.buf ≡ take t.from t.buf ++ [] ++ drop (t.from + 0) t.buf
     same = grind (arith, common_steps)
+
+nothing_moved_by : (d : Direction) (max : ℕ) (t : Transfer) → t.actual ≡ 0 → t ≡ moved_by d max t []
+nothing_moved_by In max t a = no_bytes t a
+nothing_moved_by ControlIn max t a = no_bytes t a
+nothing_moved_by ControlOut max t a = (λ i. record t { actual = a i })
 nothing_moved_by Out max t a = (λ i. record t { actual = none i })
   where
     none : t.actual ≡ min t.len (max * 0)
     none = omega arith
 
 pub nothing_moved : (shape : Shape) (t : Transfer) → t.actual ≡ 0 → t ≡ moved shape t []
-nothing_moved shape t a = nothing_moved_by (direction_of shape) shape.max t a
+nothing_moved shape t a = nothing_moved_by (direction_of shape t) shape.max t a
 
 times_push : (u : ℕ) (rounds : List Giveback) (r : Giveback) → times_back u (rounds ++ r ∷ []) ≡ times_back u rounds + cond (eqb r.urb u) 1 0
 times_push u rounds r = sum_by-append (λ (q : Giveback). cond {A = ℕ} (eqb q.urb u) 1 0) rounds (r ∷ []) ∙ ap (λ n. times_back u rounds + n) (alone (cond {A = ℕ} (eqb r.urb u) 1 0))

@@ -2,6 +2,7 @@
 use Rattle.std.proofs.Common.{ℕ, ◌≡◌, ◌+◌, ◌<◌, List, [], ◌∷◌, ◌++◌, length, take, refl, sym, ap, ◌∙◌, subst, arith, add-zero, length-append}
 use Rattle.usb_machine.specs.declared.layout.Shape.{Shape}
 use Rattle.usb_machine.specs.declared.transfer.Transfer.{Transfer}
+use Rattle.usb_xfer.specs.Direction.{asked_at}
 use Rattle.usb_xfer.specs.Replies.{Reply}
 use Rattle.usb_xfer.specs.declared.packet.Step.{Step}
 use Rattle.usb_xfer.specs.declared.packet.Step.TheVariants.{More}
@@ -21,7 +22,7 @@ same_address shape t d _ _ _ nothing = refl
 same_address shape t d _ _ _ (one_more rs now mid r e g one) = one.address_kept ∙ same_address shape t d rs now mid g
 
 -- a chain of replies is the stretch of the script that comes next
-pub chain : (script : Script) (shape : Shape) (t : Transfer) (d : EndScript) (rs : List Reply) (now : Transfer) (e : EndScript) (m : ℕ) → Gave Replied shape t d rs now e → shape.address ≡ d.address → IsAfter d script m
+pub chain : (script : Script) (shape : Shape) (t : Transfer) (d : EndScript) (rs : List Reply) (now : Transfer) (e : EndScript) (m : ℕ) → Gave Replied shape t d rs now e → asked_at shape ≡ d.address → IsAfter d script m
     → (rs ≡ replies_from script m (length rs)) × IsAfter e script (m + length rs)
 chain script shape t d _ _ _ m nothing here after = (refl, subst (IsAfter d script) (sym (add-zero m)) after)
 chain script shape t d _ _ _ m (one_more rs now mid r e g one) here after =

@@ -1,5 +1,5 @@
 -- In a well-formed scene each URB has a home, and the home takes what a submit sends where its shape has no fault.
-use Rattle.std.proofs.Common.{ℕ, zero, suc, ◌≡◌, ◌+◌, ◌<◌, ◌≤◌, Bool, true, false, not, ◌&&◌, ◌||◌, cond, eqb, replicate, Option, Some, None, List, [], ◌∷◌, length, map, refl, sym, ap, ◌∙◌, subst, arith, eq-eqb, true≢false}
+use Rattle.std.proofs.Common.{ℕ, zero, suc, ◌≡◌, ◌+◌, ◌<◌, ◌≤◌, ⊎_elim, Bool, true, false, not, ◌&&◌, ◌||◌, cond, eqb, replicate, Option, Some, None, List, [], ◌∷◌, length, map, refl, sym, ap, ◌∙◌, subst, arith, eq-eqb, true≢false}
 use Rattle.std.specs.Prelude.{slice_index_or, slice_get, ◌==◌}
 use Rattle.std.specs.List.{All, list_any, position, position_or_len}
 use Rattle.std.proofs.lemmas.Bool.{lt-ltb}
@@ -56,9 +56,14 @@ shapes_at : (n k d address : ℕ) (devices : List SceneDevice) → d ≡ n + k
 shapes_at n k d address [] is all has = absurd has
 shapes_at n zero d address (x ∷ devices) is all has =
     let same : n + 0 ≡ d = omega arith in
+    let here : n ≡ d = omega arith in
     list_any-append (is_at d address) (control_end n ∷ x.script.ends) (shapes_from (n + 1) devices)
     ∙ ap (λ b. b || list_any (is_at d address) (shapes_from (n + 1) devices))
-    (either (is_at d address (control_end n)) (list_any (is_at d address) x.script.ends) (ends_at d address x.script.ends (subst (λ (m : ℕ). All (IsEnd m) x.script.ends) same (all 0 x refl).ends) has))
+    (⊎_elim
+    (λ (z : address ≡ 0). (λ i. (eq-eqb n d here i && eq-eqb 0 address (sym z) i) || list_any (is_at d address) x.script.ends))
+    (λ (a : list_any (λ (shape : Shape). shape.address == address) x.script.ends ≡ true).
+    either (is_at d address (control_end n)) (list_any (is_at d address) x.script.ends) (ends_at d address x.script.ends (subst (λ (m : ℕ). All (IsEnd m) x.script.ends) same (all 0 x refl).ends) a))
+    has)
 shapes_at n (suc k) d address (x ∷ devices) is all has =
     list_any-append (is_at d address) (control_end n ∷ x.script.ends) (shapes_from (n + 1) devices)
     ∙ either (list_any (is_at d address) (control_end n ∷ x.script.ends)) (list_any (is_at d address) (shapes_from (n + 1) devices))

@@ -14,6 +14,8 @@ pub mod Pendings
 pub mod Stepping
 pub mod Taking
 pub mod Homes
+pub mod Asked
+pub mod Bytes
 pub mod Moves
 pub mod Givebacks
 pub mod Stills

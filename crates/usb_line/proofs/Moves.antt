@@ -4,7 +4,7 @@ use Rattle.usb_machine.specs.declared.layout.Shape.{Shape}
 use Rattle.usb_machine.specs.declared.transfer.Transfer.{Transfer}
 use Rattle.usb_types.specs.declared.errno.Errno.{Errno}
 use Rattle.usb_machine.specs.Shapes.{Accepts, shape_fault}
-use Rattle.usb_xfer.specs.Direction.{Direction, In, Out, direction_of}
+use Rattle.usb_xfer.specs.Direction.{Direction, In, Out, ControlIn, ControlOut, direction_of}
 use Rattle.usb_xfer.specs.Replies.{Reply}
 use Rattle.usb_xfer.specs.Moved.{moved, moved_by}
 
@@ -19,9 +19,11 @@ pub record AsksSame (t r : Transfer) : Type 0 where
 moved_same_by : (d : Direction) (max : ℕ) (t : Transfer) (replies : List Reply) → AsksSame t (moved_by d max t replies)
 moved_same_by In max t replies = record { setup = refl; from = refl; len = refl; short = refl; number = refl }
 moved_same_by Out max t replies = record { setup = refl; from = refl; len = refl; short = refl; number = refl }
+moved_same_by ControlIn max t replies = record { setup = refl; from = refl; len = refl; short = refl; number = refl }
+moved_same_by ControlOut max t replies = record { setup = refl; from = refl; len = refl; short = refl; number = refl }
 
 pub moved_same : (shape : Shape) (t : Transfer) (replies : List Reply) → AsksSame t (moved shape t replies)
-moved_same shape t replies = moved_same_by (direction_of shape) shape.max t replies
+moved_same shape t replies = moved_same_by (direction_of shape t) shape.max t replies
 
 -- an endpoint that takes a transfer takes what asks for the same
 pub takes_same : (o : Option Shape) (t r : Transfer) → AsksSame t r → Accepts o t → Accepts o r

@@ -14,6 +14,7 @@ use Rattle.usb_machine.specs.declared.plain.Plain.{Plain}
 use Rattle.usb_machine.specs.History.{state_of, pending_of}
 use Rattle.usb_machine.specs.Plain.{Stands}
 use Rattle.usb_machine.proofs.Rooms.{queued_has_home}
+use Rattle.usb_xfer.specs.Direction.{asked_at}
 use Rattle.usb_xfer.specs.Replies.{Reply}
 use Rattle.usb_xfer.specs.declared.packet.Step.{Step}
 use Rattle.usb_xfer.specs.declared.packet.Step.TheVariants.{More, Waiting, Ended}
@@ -33,6 +34,7 @@ use Rattle.usb_line.specs.Back.{MayGive, GaveBack}
 use Rattle.usb_line.specs.Turned.{code_of, SameElse, TakesOut, MovedOn, FallsAsleep, FirstAwake, EndsAt, PassesBy}
 use Rattle.usb_line.proofs.MayFollow.{once}
 use Rattle.usb_line.proofs.Marked.{first_unmarked}
+use Rattle.usb_line.proofs.Asked.{asked_at_home}
 use Rattle.usb_line.proofs.Homes.{home_near}
 use Rattle.usb_line.proofs.Scripts.{length-replies}
 use Rattle.usb_line.proofs.Turns.{outcome_gated, clear_mark}
@@ -85,9 +87,12 @@ module _ (s : Scene) (good : IsWellFormed s) (f : Progress) (run out_run on : Li
   abbrev shown : ShowsEnd s f e moves.end
   shown = old.each_end e moves.end there
 
+  asked : asked_at moves.end.shape ≡ moves.end.script.address
+  asked = subst (λ (x : Shape). asked_at x ≡ x.address) (sym shown.is) (asked_at_home s good e) ∙ sym shown.address
+
   -- the replies were those that came next in the script
   script : (moves.more ≡ replies_from (script_of s e) (replies_used s f e) n) × IsAfter moves.script (script_of s e) (replies_used s f e + n)
-  script = chain (script_of s e) moves.end.shape t moves.end.script moves.more now moves.script (replies_used s f e) moves.gave (sym shown.address) shown.after
+  script = chain (script_of s e) moves.end.shape t moves.end.script moves.more now moves.script (replies_used s f e) moves.gave asked shown.after
 
   address : moves.script.address ≡ moves.end.shape.address
   address = same_address moves.end.shape t moves.end.script moves.more now moves.script moves.gave ∙ shown.address

@@ -21,7 +21,6 @@ use Rattle.std.proofs.lemmas.List.Elements.{All-head, All-tail}
 use Rattle.usb_machine.specs.declared.layout.Shape.{Shape}
 use Rattle.usb_machine.specs.Queues.{HomeIsBelow}
 use Rattle.usb_machine.specs.Plain.{IsLayout}
-use Rattle.usb_xfer.specs.Direction.{goes_in}
 use Rattle.usb_xfer.specs.declared.script.What.{What}
 use Rattle.usb_xfer.specs.declared.script.What.TheVariants.{Ack, Nak, Stall, Error, Packet}
 use Rattle.usb_xfer.specs.declared.script.Item.{Item}
@@ -29,7 +28,7 @@ use Rattle.usb_xfer.specs.declared.script.Answers.{Answers}
 use Rattle.usb_scene.specs.declared.scene.Scene.{Scene}
 use Rattle.usb_scene.specs.declared.scene.SceneDevice.{SceneDevice}
 use Rattle.usb_scene.specs.declared.scene.SceneUrb.{SceneUrb}
-use Rattle.usb_scene.specs.WellFormed.{IsEnd, IsItemOf, IsItem, IsDevice, HasEnd, IsUrb, IsWellFormed}
+use Rattle.usb_scene.specs.WellFormed.{IsEnd, IsShort, IsItem, IsDevice, HasEnd, IsUrb, IsWellFormed}
 use Rattle.usb_line.specs.Prepared.{control_end, shapes_from, shapes_of, ends_of, is_at, home_at, machine_of}
 use Rattle.usb_line.specs.Run.{below}
 use Rattle.usb_line.specs.Opened.{first_end, lines_in}
@@ -245,16 +244,16 @@ module _ (s : Scene) (good : IsWellFormed s) where
     few_shapes = let few = few_ends in let long = ap (λ (l : List Shape). length l) shapes_so in omega arith
 
 -- packets are short
-reply_fits : (goes : Bool) (r : What) → IsItemOf goes r → is_short r ≡ true
-reply_fits goes Ack f = refl
-reply_fits goes Nak f = refl
-reply_fits goes Stall f = refl
-reply_fits goes Error f = refl
-reply_fits goes (Packet bytes) f = let l : length bytes < 2 ^ 32 = let few = f.1 in omega arith in lt-ltb (length bytes) (2 ^ 32) l
+reply_fits : (r : What) → IsShort r → is_short r ≡ true
+reply_fits Ack f = refl
+reply_fits Nak f = refl
+reply_fits Stall f = refl
+reply_fits Error f = refl
+reply_fits (Packet bytes) f = let l : length bytes < 2 ^ 32 = omega arith in lt-ltb (length bytes) (2 ^ 32) l
 
 items_fit : (address : ℕ) (items : List Item) → All (IsItem address) items → are_short items ≡ true
 items_fit address [] a = refl
-items_fit address (x ∷ items) a = (λ i. reply_fits (goes_in address) x.what (All-head (IsItem address) x items a).kind i && items_fit address items (All-tail (IsItem address) x items a) i)
+items_fit address (x ∷ items) a = (λ i. reply_fits x.what (All-head (IsItem address) x items a).short i && items_fit address items (All-tail (IsItem address) x items a) i)
 
 lines_fit : (lines : List Answers) → All (λ (said : Answers). All (IsItem said.address) said.items) lines → lines_are_short lines ≡ true
 lines_fit [] a = refl

@@ -1,9 +1,9 @@
 -- What a run leaves of its givebacks: a row for each, and of an OUT endpoint what it acknowledged.
-use Rattle.std.specs.Prelude.{ℕ, ◌≡◌, ◌-◌, ◌^◌, min, List, [], take, drop, length}
+use Rattle.std.specs.Prelude.{ℕ, ◌≡◌, ◌-◌, ◌^◌, min, Bool, true, false, if◌then◌else◌, List, [], take, drop, length}
 use Rattle.std.specs.List.{flat_map}
 use Rattle.usb_machine.specs.declared.transfer.Transfer.{Transfer}
 use Rattle.usb_machine.specs.declared.layout.Shape.{Shape}
-use Rattle.usb_xfer.specs.Direction.{Direction, In, Out, direction_of}
+use Rattle.usb_xfer.specs.Direction.{Direction, In, Out, ControlIn, ControlOut, direction_of}
 use Rattle.usb_xfer.specs.Moved.{acked_in}
 use Rattle.usb_scene.specs.declared.scene.Scene.{Scene}
 use Rattle.usb_line.specs.declared.made.Given.{Given}
@@ -15,13 +15,16 @@ use Rattle.usb_line.specs.Run.{Giveback, moved_in, rounds_at}
 abbrev pub moved_bytes : Transfer → List ℕ
 moved_bytes t = take t.actual (drop t.from t.buf)
 
-abbrev pub brought_in : Direction → Transfer → List ℕ
-brought_in In t = moved_bytes t
-brought_in Out t = []
+-- whether the bytes come to the host
+abbrev pub comes_in : Direction → Bool
+comes_in In = true
+comes_in Out = false
+comes_in ControlIn = true
+comes_in ControlOut = false
 
--- the bytes that an IN transfer brings
+-- the bytes that a transfer to the host brings
 abbrev pub brought_bytes : Shape → Transfer → List ℕ
-brought_bytes shape t = brought_in (direction_of shape) t
+brought_bytes shape t = if comes_in (direction_of shape t) then moved_bytes t else []
 
 -- what the report tells of a giveback
 abbrev pub given_of : Scene → Giveback → Given
@@ -30,7 +33,7 @@ given_of s r = let t = moved_in s r in
 
 -- the bytes of an OUT transfer that were acknowledged when it came back
 abbrev pub sent_bytes : Shape → Transfer → List ℕ
-sent_bytes shape t = acked_in (direction_of shape) t
+sent_bytes shape t = acked_in (direction_of shape t) t
 
 -- the bytes that endpoint e acknowledged in these givebacks
 abbrev pub acked_at : Scene → ℕ → List Giveback → List ℕ

@@ -10,9 +10,7 @@ use Rattle.usb_machine.specs.declared.transfer.Transfer.{Transfer}
 use Rattle.usb_machine.specs.Shapes.{shape_fault}
 use Rattle.usb_machine.specs.History.{Machine, home_of}
 use Rattle.usb_xfer.specs.Replies.{Reply}
-use Rattle.usb_xfer.specs.declared.script.What.TheVariants.{Nak, Ack}
 use Rattle.usb_xfer.specs.declared.script.Item.{Item}
-use Rattle.usb_xfer.specs.Direction.{goes_in}
 use Rattle.usb_scene.specs.declared.scene.Scene.{Scene}
 use Rattle.usb_scene.specs.declared.scene.SceneDevice.{SceneDevice}
 use Rattle.usb_scene.specs.declared.scene.SceneUrb.{SceneUrb}
@@ -22,7 +20,7 @@ use Rattle.usb_scene.specs.declared.scene.Target.{Target}
 use Rattle.usb_scene.specs.declared.scene.Target.TheVariants as target
 use Rattle.usb_line.specs.declared.made.Deed.{Deed}
 use Rattle.usb_line.specs.declared.made.Deed.TheVariants as deed
-use Rattle.usb_line.specs.Script.{Script, items_at}
+use Rattle.usb_line.specs.Script.{Script, items_at, last_at}
 
 -- each device has the control endpoint 00 (USB 2.0 §5.5)
 abbrev pub control_end : ℕ → Shape
@@ -80,9 +78,9 @@ or_control (Some shape) = shape
 abbrev pub shape_at : Scene → ℕ → Shape
 shape_at s e = or_control (slice_get (shapes_of s) e)
 
--- behind the last item an IN endpoint has nothing to send, and an OUT endpoint takes what comes
+-- what an endpoint replies behind its last item
 abbrev pub last_of : Shape → Reply
-last_of shape = if goes_in shape.address then Nak else Ack
+last_of shape = last_at shape.address
 
 abbrev pub script_in : Shape → Option SceneDevice → List Item
 script_in shape None = []

@@ -2,7 +2,7 @@
 use Rattle.std.specs.Prelude.{ℕ, zero, suc, ◌-◌, ◌==◌, nat_lt, if◌then◌else◌, List, [], ◌∷◌, ◌++◌}
 use Rattle.usb_xfer.specs.Replies.{Reply}
 use Rattle.usb_xfer.specs.Direction.{goes_in}
-use Rattle.usb_xfer.specs.declared.script.What.TheVariants.{Nak, Ack}
+use Rattle.usb_xfer.specs.declared.script.What.TheVariants.{Ack, Nak, Stall}
 use Rattle.usb_xfer.specs.declared.script.Item.{Item}
 use Rattle.usb_xfer.specs.declared.script.Answers.{Answers}
 
@@ -29,6 +29,6 @@ abbrev pub items_at : ℕ → List Answers → List Item
 items_at address [] = []
 items_at address (said ∷ others) = (if said.address == address then said.items else []) ++ items_at address others
 
--- the reply behind the last item of an address
+-- the reply behind the last item of an address: 00 has no answer, an IN endpoint nothing to send, and an OUT endpoint takes what comes
 abbrev pub last_at : ℕ → Reply
-last_at address = if goes_in address then Nak else Ack
+last_at address = if address == 0 then Stall else if goes_in address then Nak else Ack

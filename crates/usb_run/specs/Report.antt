@@ -1,7 +1,9 @@
 -- The text of a report: the threads with their calls and answers, what was given back, and what was received.
-use Rattle.std.specs.Prelude.{ℕ, ◌+◌, ◌==◌, Bool, true, false, if◌then◌else◌, List, [], ◌∷◌, ◌++◌, filter, slice_get, codes, decimal, Option, Some, None}
+use Rattle.std.specs.Prelude.{ℕ, ◌+◌, ◌==◌, Bool, true, false, if◌then◌else◌, List, [], ◌∷◌, ◌++◌, filter, slice_get, codes, decimal, Option, Some, None, unwrap_or}
 use Rattle.std.specs.List.{flat_map, list_all}
 use Rattle.usb_types.specs.Codes.{code_text}
+use Rattle.usb_types.specs.Table.{name_at}
+use Rattle.usb_types.specs.Rows.{call_table}
 use Rattle.usb_text.specs.Print.{hex_pair, hex_text, line}
 use Rattle.usb_scene.specs.declared.scene.Scene.{Scene}
 use Rattle.usb_scene.specs.declared.scene.SceneDevice.{SceneDevice}
@@ -33,19 +35,23 @@ device_name_in (Some device) = device.name
 abbrev pub device_name : Scene → ℕ → List ℕ
 device_name s d = device_name_in (slice_get s.devices d)
 
--- a call's word
+-- a call's number in the table of calls
+abbrev pub call_code : Deed → ℕ
+call_code (deed.Submit u) = 1
+call_code (deed.Unlink u) = 2
+call_code (deed.Kill u) = 3
+call_code (deed.Poison u) = 4
+call_code (deed.Unpoison u) = 5
+call_code (deed.Block u) = 6
+call_code (deed.Unblock u) = 7
+call_code deed.Serve = 8
+call_code deed.Down = 21
+call_code deed.Up = 22
+call_code deed.Other = 0
+
+-- a call's word, which the table has for its number
 abbrev pub call_word : Deed → List ℕ
-call_word (deed.Submit u) = codes "submit"
-call_word (deed.Unlink u) = codes "unlink"
-call_word (deed.Kill u) = codes "kill"
-call_word (deed.Poison u) = codes "poison"
-call_word (deed.Unpoison u) = codes "unpoison"
-call_word (deed.Block u) = codes "block"
-call_word (deed.Unblock u) = codes "unblock"
-call_word deed.Serve = codes "serve"
-call_word deed.Down = codes "down"
-call_word deed.Up = codes "up"
-call_word deed.Other = []
+call_word d = unwrap_or (name_at call_table (call_code d)) []
 
 -- the URB that a call is made on
 abbrev pub urb_in : Deed → Option ℕ

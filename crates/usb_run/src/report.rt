@@ -3,12 +3,12 @@ ghost use Rattle.std.specs.Prelude.{◌≡◌, ◌<◌, ◌^◌, ◌++◌, [], �
 ghost use Rattle.std.specs.List.{flat_map, list_all};
 ghost use Rattle.usb_types.specs.Codes.{code_text};
 ghost use Rattle.usb_text.specs.Print.{hex_pair, hex_text};
-ghost use Rattle.usb_run.specs.Report.{urb_name, device_name, call_word, urb_in, target_text, buffer_text, answer_text, call_text, is_told, made_text, made_by, thread_text, threads_from, outcome_text, given_text, given_section, has_none, end_text, received_section, text_of};
+ghost use Rattle.usb_run.specs.Report.{urb_name, device_name, call_code, call_word, urb_in, target_text, buffer_text, answer_text, call_text, is_told, made_text, made_by, thread_text, threads_from, outcome_text, given_text, given_section, has_none, end_text, received_section, text_of};
 
 use usb_line::{CallAnswer, CallMade, Deed, EndReceived, Given, Outcome};
 use usb_scene::{Scene, SceneThread};
 use usb_text::{push_hex, push_number, push_pairs};
-use usb_types::{Buf, Memory};
+use usb_types::{Buf, Memory, calls, name_of};
 
 fn push_urb(report: &mut Buf, scene: &Scene, urb: u32) -> Result<(), Memory>
     ensures { OnOk result (report.new ≡ report.old ++ urb_name scene.now urb) }
@@ -28,21 +28,32 @@ fn push_device(report: &mut Buf, scene: &Scene, device: u32) -> Result<(), Memor
     }
 }
 
+// The call's number in the table of calls, and 0 where it is in none.
+fn call_code(deed: Deed) -> u32
+    ensures { result ≡ call_code deed }
+{
+    match deed {
+        Deed::Submit(_) => 1,
+        Deed::Unlink(_) => 2,
+        Deed::Kill(_) => 3,
+        Deed::Poison(_) => 4,
+        Deed::Unpoison(_) => 5,
+        Deed::Block(_) => 6,
+        Deed::Unblock(_) => 7,
+        Deed::Serve => 8,
+        Deed::Down => 21,
+        Deed::Up => 22,
+        Deed::Other => 0,
+    }
+}
+
+// The call's word, by the table of calls.
 fn call_word(deed: Deed) -> &'static str
     ensures { result.now ≡ call_word deed }
 {
-    match deed {
-        Deed::Submit(_) => "submit",
-        Deed::Unlink(_) => "unlink",
-        Deed::Kill(_) => "kill",
-        Deed::Poison(_) => "poison",
-        Deed::Unpoison(_) => "unpoison",
-        Deed::Block(_) => "block",
-        Deed::Unblock(_) => "unblock",
-        Deed::Serve => "serve",
-        Deed::Down => "down",
-        Deed::Up => "up",
-        Deed::Other => "",
+    match name_of(&calls(), call_code(deed)) {
+        Some(name) => name,
+        None => "",
     }
 }
 

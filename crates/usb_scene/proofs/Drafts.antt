@@ -120,14 +120,14 @@ counted_with s line (say.Ep address kind size interval) counts place allowed h =
 counted_with s line (say.Answer address items) counts place allowed h = kept s _ counts refl (λ e. refl) h
 counted_with s line (say.Urb name device address options) counts place allowed h = kept s _ counts refl (λ e. clash (is_empty s.threads) place e) h
 counted_with s line (say.Thread name) counts place allowed h = begun s name
-counted_with s line (say.Submit urb bytes) counts place allowed h =
-    called s (plain_call line 1 (urb_target s urb) bytes) counts (not_empty s.threads place) (quiet_submit line (unwrap_or (named_urb s urb) 0) bytes) h
+counted_with s line (say.Submit urb setup bytes) counts place allowed h =
+    called s (plain_call line 1 (urb_target s urb) setup bytes) counts (not_empty s.threads place) (quiet_submit line (unwrap_or (named_urb s urb) 0) setup bytes) h
 counted_with s line (say.OnUrb call urb) counts place allowed h =
     let v = unwrap_or (named_urb s urb) 0 in
     urb_called s line v call counts (not_empty s.threads place) (urb_within s urb allowed.named)
     (and_parts (has_call_left s) (cond (raises call) (nat_lt (held_now s urb) 100) true) allowed.within).1 allowed.held h
 counted_with s line (say.Alone call) counts place allowed h =
-    called s (plain_call line (bare_call_code call) target.Nothing None) counts (not_empty s.threads place) (quiet_alone line call) h
+    called s (plain_call line (bare_call_code call) target.Nothing None None) counts (not_empty s.threads place) (quiet_alone line call) h
 
 -- one call more
 call_room : (s : Scene) (c : Call) (n : ℕ) → is_empty s.threads ≡ false → has_call_left s ≡ true → n + all_calls s ≡ 4096 → (n - 1) + all_calls (scene_calls s c) ≡ 4096
@@ -189,21 +189,21 @@ draft_with s r c line counts find next (say.Thread name) room found place allowe
       rejects = counted_with s line (say.Thread name) counts place allowed room.rejects;
       names = λ other. found other ∙ found_behind s line (say.Thread name) find allowed room.names other;
     }
-draft_with s r c line counts find next (say.Submit urb bytes) room found place allowed =
+draft_with s r c line counts find next (say.Submit urb setup bytes) room found place allowed =
     record {
       devices = room.devices;
       urbs = room.urbs;
       replies = omega (arith, room.replies);
-      calls = call_room s (plain_call line 1 (urb_target s urb) bytes) c (not_empty s.threads place) (and_parts (has_call_left s) (nat_le (given_len bytes) 16384) allowed.within).0 room.calls;
-      rejects = counted_with s line (say.Submit urb bytes) counts place allowed room.rejects;
-      names = λ other. found other ∙ found_behind s line (say.Submit urb bytes) find allowed room.names other;
+      calls = call_room s (plain_call line 1 (urb_target s urb) setup bytes) c (not_empty s.threads place) (and_parts (has_call_left s) (nat_le (given_len bytes) 16384) allowed.within).0 room.calls;
+      rejects = counted_with s line (say.Submit urb setup bytes) counts place allowed room.rejects;
+      names = λ other. found other ∙ found_behind s line (say.Submit urb setup bytes) find allowed room.names other;
     }
 draft_with s r c line counts find next (say.OnUrb call urb) room found place allowed =
     record {
       devices = room.devices;
       urbs = room.urbs;
       replies = omega (arith, room.replies);
-      calls = call_room s (plain_call line (urb_call_code call) (urb_target s urb) None) c (not_empty s.threads place) (and_parts (has_call_left s) (cond (raises call) (nat_lt (held_now s urb) 100) true) allowed.within).0 room.calls;
+      calls = call_room s (plain_call line (urb_call_code call) (urb_target s urb) None None) c (not_empty s.threads place) (and_parts (has_call_left s) (cond (raises call) (nat_lt (held_now s urb) 100) true) allowed.within).0 room.calls;
       rejects = counted_with s line (say.OnUrb call urb) counts place allowed room.rejects;
       names = λ other. found other ∙ found_behind s line (say.OnUrb call urb) find allowed room.names other;
     }
@@ -212,7 +212,7 @@ draft_with s r c line counts find next (say.Alone call) room found place allowed
       devices = room.devices;
       urbs = room.urbs;
       replies = omega (arith, room.replies);
-      calls = call_room s (plain_call line (bare_call_code call) target.Nothing None) c (not_empty s.threads place) allowed.within room.calls;
+      calls = call_room s (plain_call line (bare_call_code call) target.Nothing None None) c (not_empty s.threads place) allowed.within room.calls;
       rejects = counted_with s line (say.Alone call) counts place allowed room.rejects;
       names = λ other. found other ∙ found_behind s line (say.Alone call) find allowed room.names other;
     }

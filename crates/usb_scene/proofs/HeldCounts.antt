@@ -18,7 +18,7 @@ one_if t = cond t 1 0
 
 -- a call on URB v, by its number
 abbrev pub urb_call : ℕ → ℕ → UrbCall → Call
-urb_call line v call = plain_call line (urb_call_code call) (target.Urb v) None
+urb_call line v call = plain_call line (urb_call_code call) (target.Urb v) None None
 
 pub raised_said : (call : UrbCall) (line v u : ℕ) → raised u (urb_call line v call) ≡ cond (eqb v u) (one_if (raises call)) 0
 raised_said on.Unlink line v u = refl
@@ -45,10 +45,10 @@ zero_of : (t : Bool) → let none : ℕ = 0 in cond t none none ≡ none
 zero_of true = refl
 zero_of false = refl
 
-pub quiet_submit : (line v : ℕ) (bytes : Option (List ℕ)) → IsQuiet (plain_call line 1 (target.Urb v) bytes)
-quiet_submit line v bytes = record { raises_none = λ u. zero_of (eqb v u); withdraws_none = λ u. zero_of (eqb v u) }
+pub quiet_submit : (line v : ℕ) (setup bytes : Option (List ℕ)) → IsQuiet (plain_call line 1 (target.Urb v) setup bytes)
+quiet_submit line v setup bytes = record { raises_none = λ u. zero_of (eqb v u); withdraws_none = λ u. zero_of (eqb v u) }
 
-pub quiet_alone : (line : ℕ) (call : BareCall) → IsQuiet (plain_call line (bare_call_code call) target.Nothing None)
+pub quiet_alone : (line : ℕ) (call : BareCall) → IsQuiet (plain_call line (bare_call_code call) target.Nothing None None)
 quiet_alone line call = record { raises_none = λ u. refl; withdraws_none = λ u. refl }
 
 -- the rejects behind one call more

@@ -1,4 +1,5 @@
 mod Allowed
+mod CallCodes
 mod Drafts
 mod FirstBad
 mod HeldCounts

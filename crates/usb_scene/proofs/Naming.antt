@@ -83,6 +83,6 @@ found_behind s line (say.Urb name device address options) find allowed h other =
     ∙ last_number (bytes_eq name other) (urb_number s) name other (length s.urbs) new refl
     ∙ sym (position_push (λ (u : SceneUrb). bytes_eq u.name other) s.urbs (urb_said s name device address options))
 found_behind s line (say.Thread name) find allowed h other = h other
-found_behind s line (say.Submit urb bytes) find allowed h other = h other
+found_behind s line (say.Submit urb setup bytes) find allowed h other = h other
 found_behind s line (say.OnUrb call urb) find allowed h other = h other
 found_behind s line (say.Alone call) find allowed h other = h other

@@ -4,7 +4,7 @@ use Rattle.std.specs.Prelude.{codes, not, ◌&&◌}
 use Rattle.std.specs.Option.{option_map}
 use Rattle.std.specs.Str.{bytes_eq}
 use Rattle.std.proofs.lemmas.Option.{option_and_then_some}
-use Rattle.usb_text.specs.Kinds.{number_of}
+use Rattle.usb_text.specs.Kinds.{number_of, address_of}
 use Rattle.usb_text.proofs.Known.{some_if}
 use Rattle.usb_scene.specs.declared.scene.Scene.{Scene}
 use Rattle.usb_statement.specs.declared.statement.Statement.{Statement}
@@ -13,6 +13,7 @@ use Rattle.usb_statement.specs.declared.keyword.Keyword.{Keyword}
 use Rattle.usb_statement.specs.declared.keyword.Keyword.TheVariants as word
 use Rattle.usb_statement.specs.Items.{items_of, are_items_of}
 use Rattle.usb_statement.specs.Options.{options_of}
+use Rattle.usb_statement.specs.Setups.{setup_first, behind_setup}
 use Rattle.usb_statement.specs.UrbNames.{name_of, urb_name_of}
 use Rattle.usb_statement.specs.Statements.{is_empty, end_of, kind_of, sent_of, statement_of, keyword_said}
 use Rattle.usb_scene.specs.Rules.{may_stand}
@@ -34,19 +35,19 @@ first_said word.Ep (address ∷ kind ∷ size ∷ interval ∷ []) said h =
     option_and_then_some _ (number_of size) said i (λ s j l.
     option_and_then_some _ (number_of interval) said l (λ n m o. said_as word.Ep (say.Ep a k s n) said (cc) refl))))
 first_said word.Answer (address ∷ items) said h =
-    option_and_then_some _ (end_of address) said h (λ a e g.
+    option_and_then_some _ (address_of address) said h (λ a e g.
     option_and_then_some _ (items_of items) said g (λ its f k.
     said_as word.Answer (say.Answer a its) said (some_if (not (is_empty its) && are_items_of a its) (say.Answer a its) said k).1 refl))
 first_said word.Urb (name ∷ device ∷ address ∷ options) said h =
     option_and_then_some _ (name_of name) said h (λ n e g.
     option_and_then_some _ (name_of device) said g (λ d f k.
-    option_and_then_some _ (end_of address) said k (λ a i l.
+    option_and_then_some _ (address_of address) said k (λ a i l.
     option_and_then_some _ (options_of options) said l (λ os j m. said_as word.Urb (say.Urb n d a os) said (cc) refl))))
 first_said word.Thread (name ∷ []) said h =
     let p = map_some (λ n. say.Thread n) (name_of name) said h in said_as word.Thread (say.Thread p.0) said p.2 refl
 first_said word.Submit (urb ∷ texts) said h =
     option_and_then_some _ (urb_name_of urb) said h (λ u e g.
-    option_and_then_some _ (sent_of texts) said g (λ b f k. said_as word.Submit (say.Submit u b) said (cc) refl))
+    option_and_then_some _ (sent_of (behind_setup texts)) said g (λ b f k. said_as word.Submit (say.Submit u (setup_first texts) b) said (cc) refl))
 first_said (word.OnUrb call) (urb ∷ []) said h =
     let p = map_some (λ u. say.OnUrb call u) (urb_name_of urb) said h in said_as (word.OnUrb call) (say.OnUrb call p.0) said p.2 refl
 first_said (word.Alone call) [] said h = said_as (word.Alone call) (say.Alone call) said (cc) refl

@@ -1,5 +1,5 @@
 -- A line without a cause against it leaves the scene well formed.
-use Rattle.std.proofs.Common.{◌≡◌, ℕ, ◌-◌, ◌<◌, ◌≤◌, ◌^◌, ◌⊎◌, inl, inr, Bool, true, false, cond, eqb, List, [], ◌∷◌, ◌++◌, length, zero, suc, Option, Some, None, refl, sym, ap, ◌∙◌, arith, subst, lit≤}
+use Rattle.std.proofs.Common.{◌≡◌, ◌≢◌, ℕ, ◌-◌, ◌<◌, ◌≤◌, ◌^◌, ◌⊎◌, inl, inr, Bool, true, false, cond, eqb, List, [], ◌∷◌, ◌++◌, length, zero, suc, Option, Some, None, refl, sym, ap, ◌∙◌, arith, subst, lit≤}
 use Rattle.std.specs.Prelude.{nat_le, nat_lt, not, ◌&&◌, unwrap_or, position, slice_get, is_some, codes}
 use Rattle.std.specs.List.{All, list_any}
 use Rattle.std.specs.Option.{option_map}
@@ -28,11 +28,11 @@ use Rattle.usb_statement.specs.declared.keyword.BareCall.{BareCall}
 use Rattle.usb_statement.specs.declared.keyword.BareCall.TheVariants as bare
 use Rattle.usb_statement.specs.declared.statement.Statement.{Statement}
 use Rattle.usb_statement.specs.declared.statement.Statement.TheVariants as say
-use Rattle.usb_statement.specs.Items.{is_reply_of, are_items_of}
+use Rattle.usb_statement.specs.Items.{is_reply_of, is_reply_at, are_items_of}
 use Rattle.usb_statement.specs.Sayable.{IsEndAddress, is_end_kind, IsPacket, IsSayableItem, IsSayable}
 use Rattle.usb_statement.specs.Statements.{is_empty, keyword_said}
-use Rattle.usb_scene.specs.WellFormed.{IsEnd, IsItemOf, IsItem, IsDevice, HasEnd, IsUrb, IsBuilt, IsBuffer, IsCall, AreHeld, held_on, is_hub_call, IsThread, IsWellFormed}
-use Rattle.usb_scene.specs.Rules.{in_devices, may_stand, named_urb, device_number, numbered_device, has_end, last_device, has_call_left, given_len, len_in, again_in, raises, withdraws, held_now, calls_of, last_thread, is_hub, may_call}
+use Rattle.usb_scene.specs.WellFormed.{IsEnd, IsShort, IsItemOf, IsItem, IsDevice, HasEnd, IsUrb, IsBuilt, IsBuffer, IsCall, AreHeld, held_on, is_hub_call, IsThread, IsWellFormed}
+use Rattle.usb_scene.specs.Rules.{in_devices, may_stand, named_urb, device_number, numbered_device, has_end, has_address, last_device, has_call_left, given_len, len_in, again_in, raises, withdraws, held_now, calls_of, last_thread, is_hub, may_call}
 use Rattle.usb_scene.specs.Growth.{on_last, bare_device, end_said, with_end, together, joined, with_answers, urb_said, plain_call, urb_call_code, bare_call_code, with_call, scene_calls, scene_with}
 use Rattle.usb_scene.specs.Counts.{AreFair}
 use Rattle.usb_scene.proofs.Allowed.{IsAllowed, urb_within}
@@ -65,20 +65,34 @@ end_kind Interrupt h = inr (inl refl)
 end_kind Iso h = inr (inr refl)
 
 -- items
-item_kind : (goes : Bool) (w : What) → IsPacket w → is_reply_of goes w ≡ true → IsItemOf goes w
-item_kind goes Ack packet h = not-true goes h
-item_kind goes Nak packet h = tt
-item_kind goes Stall packet h = tt
-item_kind goes Error packet h = tt
-item_kind goes (Packet bytes) packet h = (h, packet.1)
+item_short : (w : What) → IsPacket w → IsShort w
+item_short Ack packet = tt
+item_short Nak packet = tt
+item_short Stall packet = tt
+item_short Error packet = tt
+item_short (Packet bytes) packet = packet.1
+
+item_kind : (goes : Bool) (w : What) → is_reply_of goes w ≡ true → IsItemOf goes w
+item_kind goes Ack h = not-true goes h
+item_kind goes Nak h = tt
+item_kind goes Stall h = tt
+item_kind goes Error h = tt
+item_kind goes (Packet bytes) h = h
+
+item_at : (a : ℕ) (w : What) → is_reply_at a w ≡ true → a ≢ 0 → IsItemOf (goes_in a) w
+item_at a w h other =
+    elim (or_cases (eqb a 0) (is_reply_of (goes_in a) w) h) as (λ _. IsItemOf (goes_in a) w) [
+      | inl x ↦ absurd (other (eqb-true a 0 x))
+      | inr y ↦ item_kind (goes_in a) w y
+    ]
 
 good_items : (a : ℕ) (items : List Item) → All IsSayableItem items → are_items_of a items ≡ true → All (IsItem a) items
 good_items a [] each fit = All-nil (IsItem a)
 good_items a (item ∷ items) each fit =
-    let p = and_parts (is_reply_of (goes_in a) item.what) (are_items_of a items) fit in
+    let p = and_parts (is_reply_at a item.what) (are_items_of a items) fit in
     let first = All-head IsSayableItem item items each in
     All-cons (IsItem a) item items
-    (record { some = omega (arith, first.some); most = first.most; kind = item_kind (goes_in a) item.what first.packet p.0 })
+    (record { some = omega (arith, first.some); most = first.most; short = item_short item.what first.packet; kind = item_at a item.what p.0 })
     (good_items a items (All-tail IsSayableItem item items each) p.1)
 
 abbrev AreItems : Answers → Type 0
@@ -118,11 +132,13 @@ device_with_answers : (d : ℕ) (said : Answers) (device : SceneDevice) → AreI
 device_with_answers d said device new h = record { ends = h.ends; once = h.once; answers = all_joined said device.script.answers new h.answers }
 
 -- URBs
-has_home : (address : ℕ) (o : Option SceneDevice) → has_end o address ≡ true → HasEnd address o
+has_home : (address : ℕ) (o : Option SceneDevice) → has_address o address ≡ true → HasEnd address o
 has_home address None h = cc
-has_home address (Some device) h = h
+has_home address (Some device) h =
+    elim (or_cases (eqb address 0) (has_end (Some device) address) h) as (λ _. HasEnd address (Some device))
+    [ inl x ↦ inl (eqb-true address 0 x) | inr y ↦ inr y ]
 
-home_of : (s : Scene) (o : Option ℕ) (address : ℕ) → has_end (numbered_device s o) address ≡ true → HasEnd address (slice_get s.devices (unwrap_or o 0))
+home_of : (s : Scene) (o : Option ℕ) (address : ℕ) → has_address (numbered_device s o) address ≡ true → HasEnd address (slice_get s.devices (unwrap_or o 0))
 home_of s None address h = cc
 home_of s (Some n) address h = has_home address (slice_get s.devices n) h
 
@@ -243,12 +259,12 @@ given_buffer : (bytes : Option (List ℕ)) → given_len bytes ≤ 16384 → IsB
 given_buffer None h = tt
 given_buffer (Some bytes) h = h
 
-submit_sound : (s : Scene) (line : ℕ) (v : ℕ) (bytes : Option (List ℕ)) → is_empty s.threads ≡ false → v < length s.urbs → given_len bytes ≤ 16384 → line < 2 ^ 31
-    → IsSound s → IsSound (scene_calls s (plain_call line 1 (target.Urb v) bytes))
-submit_sound s line v bytes some there few low h =
-    let c = plain_call line 1 (target.Urb v) bytes in
-    let quiet = quiet_submit line v bytes in
-    call_sound s c some (record { line = low; built = (lit≤ tt, lit≤ tt, there); setup = refl; bytes = given_buffer bytes few })
+submit_sound : (s : Scene) (line : ℕ) (v : ℕ) (setup bytes : Option (List ℕ)) → is_empty s.threads ≡ false → v < length s.urbs → given_len bytes ≤ 16384 → line < 2 ^ 31
+    → IsSound s → IsSound (scene_calls s (plain_call line 1 (target.Urb v) setup bytes))
+submit_sound s line v setup bytes some there few low h =
+    let c = plain_call line 1 (target.Urb v) setup bytes in
+    let quiet = quiet_submit line v setup bytes in
+    call_sound s c some (record { line = low; built = (lit≤ tt, lit≤ tt, there); setup = λ other. absurd (other refl); bytes = given_buffer bytes few })
     (λ x e p. record { held = held_calmly x.calls c quiet p.0.held; fair = fair_quiet x.calls c quiet p.1; hub = λ other. refl }) h
 
 urb_sound : (s : Scene) (line : ℕ) (v : ℕ) (call : UrbCall) → is_empty s.threads ≡ false → v < length s.urbs → line < 2 ^ 31
@@ -258,7 +274,7 @@ urb_sound : (s : Scene) (line : ℕ) (v : ℕ) (call : UrbCall) → is_empty s.t
 urb_sound s line v call some there low free held h =
     let c = urb_call line v call in
     let codes = urb_codes call in
-    call_sound s c some (record { line = low; built = (codes.0, codes.1, there); setup = refl; bytes = tt })
+    call_sound s c some (record { line = low; built = (codes.0, codes.1, there); setup = λ other. refl; bytes = tt })
     (λ x e p.
     let same : calls_of (last_thread s) ≡ x.calls = ap calls_of e in
     let free_x = subst (λ (cs : List Call). cond (raises call) (nat_lt (held_on v cs) 100) true ≡ true) same free in
@@ -266,11 +282,11 @@ urb_sound s line v call some there low free held h =
     record { held = held_said call line v x.calls p.1 free_x held_x p.0.held; fair = fair_said call line v x.calls p.1 held_x; hub = λ other. not_of_hub call }) h
 
 alone_sound : (s : Scene) (line : ℕ) (call : BareCall) → is_empty s.threads ≡ false → line < 2 ^ 31 → may_call s (say.Alone call) ≡ true
-    → IsSound s → IsSound (scene_calls s (plain_call line (bare_call_code call) target.Nothing None))
+    → IsSound s → IsSound (scene_calls s (plain_call line (bare_call_code call) target.Nothing None None))
 alone_sound s line call some low hub h =
-    let c = plain_call line (bare_call_code call) target.Nothing None in
+    let c = plain_call line (bare_call_code call) target.Nothing None None in
     let quiet = quiet_alone line call in
-    call_sound s c some (record { line = low; built = bare_built s call; setup = refl; bytes = tt })
+    call_sound s c some (record { line = low; built = bare_built s call; setup = λ other. refl; bytes = tt })
     (λ x e p. record { held = held_calmly x.calls c quiet p.0.held; fair = fair_quiet x.calls c quiet p.1; hub = hub_free s call x hub e }) h
 
 -- a scene whose devices change while nothing else stands
@@ -363,9 +379,9 @@ sound_with s line (say.Thread name) h place sayable allowed low =
     let p : SceneThread → Bool = λ (t : SceneThread). bytes_eq t.name name in
     let new = and_parts (not (is_some (position p s.threads))) (not (bytes_eq name (codes "server"))) allowed.new in
     thread_sound s name (ltb-true (length s.threads) 16 allowed.within) (not-true (is_some (position p s.threads)) new.0) h
-sound_with s line (say.Submit urb bytes) h place sayable allowed low =
+sound_with s line (say.Submit urb setup bytes) h place sayable allowed low =
     let limits = and_parts (has_call_left s) (nat_le (given_len bytes) 16384) allowed.within in
-    submit_sound s line (unwrap_or (named_urb s urb) 0) bytes (not_empty s.threads place) (urb_within s urb allowed.named) (leb-true (given_len bytes) 16384 limits.1) low h
+    submit_sound s line (unwrap_or (named_urb s urb) 0) setup bytes (not_empty s.threads place) (urb_within s urb allowed.named) (leb-true (given_len bytes) 16384 limits.1) low h
 sound_with s line (say.OnUrb call urb) h place sayable allowed low =
     let limits = and_parts (has_call_left s) (cond (raises call) (nat_lt (held_now s urb) 100) true) allowed.within in
     urb_sound s line (unwrap_or (named_urb s urb) 0) call (not_empty s.threads place) (urb_within s urb allowed.named) low limits.1 allowed.held h

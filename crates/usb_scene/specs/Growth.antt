@@ -69,9 +69,9 @@ urb_said scene name device address options = record {
 }
 
 -- a call with one target and no numbers
-abbrev pub plain_call : ℕ → ℕ → Target → Option (List ℕ) → Call
-plain_call line code target bytes =
-    record { line = line; code = code; target = target; second = None; numbers = 0 ∷ 0 ∷ 0 ∷ 0 ∷ []; setup = None; bytes = bytes }
+abbrev pub plain_call : ℕ → ℕ → Target → Option (List ℕ) → Option (List ℕ) → Call
+plain_call line code target setup bytes =
+    record { line = line; code = code; target = target; second = None; numbers = 0 ∷ 0 ∷ 0 ∷ 0 ∷ []; setup = setup; bytes = bytes }
 
 -- the calls' numbers in the table of calls
 abbrev pub urb_call_code : UrbCall → ℕ
@@ -108,9 +108,9 @@ scene_with scene line (say.Urb name device address options) =
     record scene { urbs = scene.urbs ++ urb_said scene name device address options ∷ [] }
 scene_with scene line (say.Thread name) =
     record scene { threads = scene.threads ++ record { name = name; calls = [] } ∷ [] }
-scene_with scene line (say.Submit urb bytes) = scene_calls scene (plain_call line 1 (urb_target scene urb) bytes)
-scene_with scene line (say.OnUrb call urb) = scene_calls scene (plain_call line (urb_call_code call) (urb_target scene urb) None)
-scene_with scene line (say.Alone call) = scene_calls scene (plain_call line (bare_call_code call) target.Nothing None)
+scene_with scene line (say.Submit urb setup bytes) = scene_calls scene (plain_call line 1 (urb_target scene urb) setup bytes)
+scene_with scene line (say.OnUrb call urb) = scene_calls scene (plain_call line (urb_call_code call) (urb_target scene urb) None None)
+scene_with scene line (say.Alone call) = scene_calls scene (plain_call line (bare_call_code call) target.Nothing None None)
 
 -- how many answers and calls a line adds
 abbrev pub replies_said : Statement → ℕ
@@ -118,7 +118,7 @@ replies_said (say.Answer address items) = replies_of items
 replies_said _ = 0
 
 abbrev pub calls_said : Statement → ℕ
-calls_said (say.Submit urb bytes) = 1
+calls_said (say.Submit urb setup bytes) = 1
 calls_said (say.OnUrb call urb) = 1
 calls_said (say.Alone call) = 1
 calls_said _ = 0

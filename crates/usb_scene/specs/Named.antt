@@ -23,6 +23,6 @@ found_with scene _ find other = find other
 
 -- the number of the URB that a line calls, 0 where it calls none
 abbrev pub called_urb : Scene → Statement → ℕ
-called_urb scene (say.Submit urb bytes) = unwrap_or (named_urb scene urb) 0
+called_urb scene (say.Submit urb setup bytes) = unwrap_or (named_urb scene urb) 0
 called_urb scene (say.OnUrb call urb) = unwrap_or (named_urb scene urb) 0
 called_urb scene _ = 0

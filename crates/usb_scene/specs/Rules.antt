@@ -1,5 +1,5 @@
 -- Where a line may stand, what it must name, what it must not repeat, its limits, and its rules on rejects and the hub.
-use Rattle.std.specs.Prelude.{ℕ, ◌+◌, ◌-◌, Bool, true, false, ◌&&◌, not, ◌==◌, nat_le, nat_lt, if◌then◌else◌, List, [], ◌∷◌, length, Option, Some, None, is_some, position, unwrap_or, slice_get, sum_by, count_by, codes}
+use Rattle.std.specs.Prelude.{ℕ, ◌+◌, ◌-◌, Bool, true, false, ◌&&◌, ◌||◌, not, ◌==◌, nat_le, nat_lt, if◌then◌else◌, List, [], ◌∷◌, length, Option, Some, None, is_some, position, unwrap_or, slice_get, sum_by, count_by, codes}
 use Rattle.std.specs.List.{list_any}
 use Rattle.std.specs.Str.{bytes_eq}
 use Rattle.usb_machine.specs.declared.layout.Shape.{Shape}
@@ -63,6 +63,11 @@ ends_of (Some device) = device.script.ends
 abbrev pub has_end : Option SceneDevice → ℕ → Bool
 has_end device address = list_any (λ (e : Shape). e.address == address) (ends_of device)
 
+-- whether an address is one of a device: 00, which each device has, or that of an endpoint
+abbrev pub has_address : Option SceneDevice → ℕ → Bool
+has_address None address = false
+has_address (Some device) address = address == 0 || has_end (Some device) address
+
 -- the device whose lines are being read
 abbrev pub last_device : Scene → Option SceneDevice
 last_device scene = slice_get scene.devices (length scene.devices - 1)
@@ -74,9 +79,9 @@ numbered_device scene (Some number) = slice_get scene.devices number
 
 -- each name and address that the line takes as declared is so
 abbrev pub names_stand : Scene → Statement → Bool
-names_stand scene (say.Answer address items) = has_end (last_device scene) address
-names_stand scene (say.Urb name device address options) = has_end (numbered_device scene (device_number scene device)) address
-names_stand scene (say.Submit urb bytes) = is_some (named_urb scene urb)
+names_stand scene (say.Answer address items) = has_address (last_device scene) address
+names_stand scene (say.Urb name device address options) = has_address (numbered_device scene (device_number scene device)) address
+names_stand scene (say.Submit urb setup bytes) = is_some (named_urb scene urb)
 names_stand scene (say.OnUrb call urb) = is_some (named_urb scene urb)
 names_stand scene _ = true
 
@@ -173,7 +178,7 @@ is_within scene (say.Answer address items) = nat_le (all_replies scene + replies
 is_within scene (say.Urb name device address options) =
     nat_le (len_in options) 16384 && nat_le (again_in options) 63 && nat_lt (length scene.urbs) 256
 is_within scene (say.Thread name) = nat_lt (length scene.threads) 16
-is_within scene (say.Submit urb bytes) = has_call_left scene && nat_le (given_len bytes) 16384
+is_within scene (say.Submit urb setup bytes) = has_call_left scene && nat_le (given_len bytes) 16384
 is_within scene (say.OnUrb call urb) = has_call_left scene && (if raises call then nat_lt (held_now scene urb) 100 else true)
 is_within scene (say.Alone call) = has_call_left scene
 

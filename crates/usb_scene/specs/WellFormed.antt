@@ -1,6 +1,6 @@
 -- What holds of every scene that is read, beyond its text: numbers are those of things that are there, names stand
 -- once, sizes and counts are within their limits, and no script withdraws a reject that it does not hold.
-use Rattle.std.specs.Prelude.{ℕ, ◌≡◌, ◌-◌, ◌<◌, ◌≤◌, ◌^◌, ◌⊎◌, ◌==◌, Bool, true, false, if◌then◌else◌, List, ◌∷◌, ◌++◌, length, slice_get, sum_by, codes, Option, Some, None}
+use Rattle.std.specs.Prelude.{ℕ, ◌≡◌, ◌≢◌, ◌-◌, ◌<◌, ◌≤◌, ◌^◌, ◌⊎◌, ◌==◌, Bool, true, false, if◌then◌else◌, List, ◌∷◌, ◌++◌, length, slice_get, sum_by, codes, Option, Some, None}
 use Rattle.std.specs.List.{All, list_any}
 use Rattle.std.specs.Str.{bytes_eq}
 use Rattle.usb_machine.specs.declared.layout.EndKind.TheVariants.{Bulk, Interrupt, Iso}
@@ -25,28 +25,35 @@ pub record IsEnd (d : ℕ) (shape : Shape) : Type 0 where
   pub kind : (shape.kind ≡ Bulk) ⊎ (shape.kind ≡ Interrupt) ⊎ (shape.kind ≡ Iso)
   pub most : shape.max ≤ 1024
 
--- an item of an address that goes in, or out
+-- a packet has at most 1,024 bytes
+abbrev pub IsShort : What → Type 0
+IsShort (Packet bytes) = length bytes ≤ 1024
+IsShort _ = Unit {0}
+
+-- a reply of an address that goes in, or out
 abbrev pub IsItemOf : Bool → What → Type 0
 IsItemOf goes Ack = goes ≡ false
 IsItemOf goes Nak = Unit {0}
 IsItemOf goes Stall = Unit {0}
 IsItemOf goes Error = Unit {0}
-IsItemOf goes (Packet bytes) = (goes ≡ true) × (length bytes ≤ 1024)
+IsItemOf goes (Packet bytes) = goes ≡ true
 
 pub record IsItem (address : ℕ) (item : Item) : Type 0 where
   pub some : 0 < item.times
   pub most : item.times ≤ 4096
-  pub kind : IsItemOf (goes_in address) item.what
+  pub short : IsShort item.what
+  -- at 00, where control transfers go both ways, it may be any
+  pub kind : address ≢ 0 → IsItemOf (goes_in address) item.what
 
 pub record IsDevice (d : ℕ) (device : SceneDevice) : Type 0 where
   pub ends : All (IsEnd d) device.script.ends
   pub once : (i j : ℕ) (a b : Shape) → slice_get device.script.ends i ≡ Some a → slice_get device.script.ends j ≡ Some b → a.address ≡ b.address → i ≡ j
   pub answers : All (λ (said : Answers). All (IsItem said.address) said.items) device.script.answers
 
--- the URB's device has an endpoint with its address
+-- the address is 00, which each device has, or that of an endpoint of the URB's device
 abbrev pub HasEnd : ℕ → Option SceneDevice → Type 0
 HasEnd address None = ⊥
-HasEnd address (Some device) = list_any (λ (shape : Shape). shape.address == address) device.script.ends ≡ true
+HasEnd address (Some device) = (address ≡ 0) ⊎ (list_any (λ (shape : Shape). shape.address == address) device.script.ends ≡ true)
 
 pub record IsUrb (s : Scene) (urb : SceneUrb) : Type 0 where
   pub home : HasEnd urb.address (slice_get s.devices urb.device)
@@ -66,7 +73,8 @@ IsBuffer (Some bytes) = length bytes ≤ 16384
 pub record IsCall (s : Scene) (c : Call) : Type 0 where
   pub line : c.line < 2 ^ 31
   pub built : IsBuilt s c.code c.target
-  pub setup : c.setup ≡ None
+  -- only a submit has a setup packet
+  pub setup : c.code ≢ 1 → c.setup ≡ None
   pub bytes : IsBuffer c.bytes
 
 abbrev pub is_on : ℕ → Target → Bool

@@ -12,7 +12,10 @@ use crate::rejects::{Rejects, raises, withdraws};
 use crate::room::{
     are_low, calls_behind, is_buffer, names_behind, rejects_behind, replies_behind, room_behind,
 };
-use crate::rules::{are_once, device_number, is_new_thread, last_has_end, may_call, named_has_end};
+use crate::rules::{
+    are_once, device_number, is_new_thread, last_has_address, last_has_end, may_call,
+    named_has_address,
+};
 use crate::scene::Scene;
 use std::alloc::Global;
 use std::marker::Model;
@@ -122,12 +125,12 @@ impl Draft {
         ensures { result ≡ names_stand self.now statement.now }
     {
         match statement {
-            Statement::Answer { address, .. } => last_has_end(&self.scene, *address),
+            Statement::Answer { address, .. } => last_has_address(&self.scene, *address),
             Statement::Urb {
                 device,
                 address,
                 ..
-            } => named_has_end(&self.scene, device.bytes(), *address),
+            } => named_has_address(&self.scene, device.bytes(), *address),
             Statement::Submit { urb, .. } => self.named_urb(urb).is_some(),
             Statement::OnUrb { urb, .. } => self.named_urb(urb).is_some(),
             _ => true,

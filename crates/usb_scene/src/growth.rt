@@ -1,7 +1,9 @@
 //! What a line adds to the scene.
-ghost use Rattle.std.specs.Prelude.{◌≡◌, ◌≤◌, length, IsTrue, OnOk};
+ghost use Rattle.std.specs.Prelude.{◌≡◌, ◌≤◌, length, unwrap_or, IsTrue, OnOk};
 ghost use Rattle.std.specs.List.{list_any};
 ghost use Rattle.usb_scene.specs.Rules.{is_within, is_short, len_in, again_in};
+ghost use Rattle.usb_types.specs.Table.{code_at};
+ghost use Rattle.usb_types.specs.Rows.{call_table};
 ghost use Rattle.usb_scene.specs.Named.{called_urb};
 ghost use Rattle.usb_scene.specs.Growth.{bare_device, end_said, on_last, with_end, joined, with_answers, urb_said, plain_call, urb_call_code, bare_call_code, with_call, scene_with};
 
@@ -10,7 +12,7 @@ use crate::scene::{Call, Scene, SceneDevice, SceneThread, SceneUrb, Target};
 use std::alloc::Global;
 use usb_machine::{EndKind, Shape};
 use usb_statement::{BareCall, Statement, UrbCall, UrbOption};
-use usb_types::{Buf, List, Memory};
+use usb_types::{Buf, List, Memory, calls, code_of};
 use usb_xfer::{Answers, DeviceScript, Kind};
 
 const USUAL_PORT_STATUS: u8 = 0x18;
@@ -136,8 +138,14 @@ fn urb_said(scene: &Scene, name: Buf, device: &[u8], address: u8, options: &[Urb
     }
 }
 
-fn plain_call(line: u32, code: u32, target: Target, bytes: Option<Buf>) -> Call
-    ensures { result ≡ plain_call line code target bytes }
+fn plain_call(
+    line: u32,
+    code: u32,
+    target: Target,
+    setup: Option<[u8; 8]>,
+    bytes: Option<Buf>,
+) -> Call
+    ensures { result ≡ plain_call line code target setup bytes }
 {
     Call {
         line,
@@ -145,32 +153,37 @@ fn plain_call(line: u32, code: u32, target: Target, bytes: Option<Buf>) -> Call
         target,
         second: None,
         numbers: [0; 4],
-        setup: None,
+        setup,
         bytes,
     }
 }
 
+// The number of a call in the table of calls, by its word.
+fn call_code(word: &str) -> u32
+    ensures { result ≡ unwrap_or (code_at call_table word.now) 0 }
+{
+    code_of(&calls(), word).unwrap_or(0)
+}
+
+#[tactic(auto, using(crate::proofs::CallCodes::submit_number))]
+fn submit_code() -> u32
+    ensures { result ≡ 1 }
+{
+    call_code("submit")
+}
+
+#[tactic(auto, using(crate::proofs::CallCodes::urb_call_number))]
 fn urb_call_code(call: UrbCall) -> u32
     ensures { result ≡ urb_call_code call }
 {
-    match call {
-        UrbCall::Unlink => 2,
-        UrbCall::Kill => 3,
-        UrbCall::Poison => 4,
-        UrbCall::Unpoison => 5,
-        UrbCall::Block => 6,
-        UrbCall::Unblock => 7,
-    }
+    call_code(call.word())
 }
 
+#[tactic(auto, using(crate::proofs::CallCodes::bare_call_number))]
 fn bare_call_code(call: BareCall) -> u32
     ensures { result ≡ bare_call_code call }
 {
-    match call {
-        BareCall::Serve => 8,
-        BareCall::Down => 21,
-        BareCall::Up => 22,
-    }
+    call_code(call.word())
 }
 
 #[tactic(auto, using(crate::proofs::Scenes::on_last_push))]
@@ -226,20 +239,27 @@ pub fn add(
             let calls = List::of(Vec::new(alloc));
             scene.threads.push(SceneThread { name, calls })
         }
-        Statement::Submit { bytes, .. } => {
+        Statement::Submit { setup, bytes, .. } => {
             let target = Target::Urb(urb);
-            add_call(&mut scene.threads, plain_call(line, 1, target, bytes))
+            let code = submit_code();
+            add_call(
+                &mut scene.threads,
+                plain_call(line, code, target, setup, bytes),
+            )
         }
         Statement::OnUrb { call, .. } => {
             let target = Target::Urb(urb);
             let code = urb_call_code(call);
-            add_call(&mut scene.threads, plain_call(line, code, target, None))
+            add_call(
+                &mut scene.threads,
+                plain_call(line, code, target, None, None),
+            )
         }
         Statement::Alone { call } => {
             let code = bare_call_code(call);
             add_call(
                 &mut scene.threads,
-                plain_call(line, code, Target::Nothing, None),
+                plain_call(line, code, Target::Nothing, None, None),
             )
         }
     }

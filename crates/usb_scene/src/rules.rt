@@ -1,9 +1,9 @@
 //! Where a line may stand, what is declared before it, and which thread may call the hub.
-ghost use Rattle.std.specs.Prelude.{◌≡◌, ◌<◌, ◌==◌, ◌&&◌, not, is_some, codes, nat_le, count_by, length, IfSome};
+ghost use Rattle.std.specs.Prelude.{◌≡◌, ◌<◌, ◌==◌, ◌&&◌, ◌||◌, not, is_some, codes, nat_le, count_by, length, IfSome};
 ghost use Rattle.std.specs.List.{list_any};
 ghost use Rattle.std.specs.Str.{bytes_eq};
 ghost use Rattle.usb_machine.specs.declared.layout.Shape.{Shape};
-ghost use Rattle.usb_scene.specs.Rules.{in_devices, may_stand, device_number, thread_number, has_end, last_device, numbered_device, is_len, is_again, is_short, are_once, is_hub, last_thread, may_call};
+ghost use Rattle.usb_scene.specs.Rules.{in_devices, may_stand, device_number, thread_number, has_end, has_address, last_device, numbered_device, is_len, is_again, is_short, are_once, is_hub, last_thread, may_call};
 
 use crate::scene::Scene;
 use usb_machine::Shape;
@@ -65,12 +65,29 @@ pub fn last_has_end(scene: &Scene, address: u8) -> bool
     }
 }
 
-/// Whether the device with this name has an endpoint with this address.
-pub fn named_has_end(scene: &Scene, device: &[u8], address: u8) -> bool
-    ensures { result ≡ has_end (numbered_device scene.now (device_number scene.now device.now)) address }
+// Each device has the address 00.
+fn has_address(ends: &[Shape], address: u8) -> bool
+    ensures { result ≡ (address == 0 || list_any (λ (e : Shape). e.address == address) ends.now) }
+{
+    address == 0 || has_end(ends, address)
+}
+
+/// Whether the address is one of the device whose lines are being read.
+pub fn last_has_address(scene: &Scene, address: u8) -> bool
+    ensures { result ≡ has_address (last_device scene.now) address }
+{
+    match scene.devices.items().last() {
+        Some(device) => has_address(device.script.ends.items(), address),
+        None => false,
+    }
+}
+
+/// Whether the address is one of the device with this name.
+pub fn named_has_address(scene: &Scene, device: &[u8], address: u8) -> bool
+    ensures { result ≡ has_address (numbered_device scene.now (device_number scene.now device.now)) address }
 {
     match device_number(scene, device) {
-        Some(number) => has_end(scene.devices.items()[number].script.ends.items(), address),
+        Some(number) => has_address(scene.devices.items()[number].script.ends.items(), address),
         None => false,
     }
 }

@@ -1,19 +1,20 @@
 -- A statement that is printed is read again.
-use Rattle.std.proofs.Common.{◌≡◌, not, cond, [], ◌∷◌, map, Some, None, refl, ap, ◌∙◌}
+use Rattle.std.proofs.Common.{◌≡◌, not, cond, ◌++◌, map, Some, None, refl, ap, ◌∙◌}
 use Rattle.std.specs.Prelude.{option_and_then}
 use Rattle.std.specs.Fmt as fmt
 use Rattle.std.specs.Option.{option_map}
 use Rattle.std.specs.List.{flat_map}
 use Rattle.std.proofs.lemmas.Bool.{and_from, not_from_false}
-use Rattle.usb_text.specs.Kinds.{number_of}
-use Rattle.usb_text.specs.Print.{hex_pair, hex_text}
-use Rattle.usb_text.proofs.Back.{number_of-decimal}
+use Rattle.usb_text.specs.Kinds.{number_of, address_of}
+use Rattle.usb_text.specs.Print.{hex_pair}
+use Rattle.usb_text.proofs.Back.{number_of-decimal, address_of-hex_pair}
 use Rattle.usb_statement.specs.Items.{items_of, are_items_of}
 use Rattle.usb_statement.specs.Options.{options_of}
 use Rattle.usb_statement.specs.UrbNames.{name_of}
-use Rattle.usb_statement.specs.Statements.{end_of, kind_of, sent_of, is_empty, answer_with, keyword_of, keyword_said, statement_of}
+use Rattle.usb_statement.specs.Setups.{setup_first, behind_setup}
+use Rattle.usb_statement.specs.Statements.{kind_of, sent_of, is_empty, answer_with, keyword_of, keyword_said, statement_of}
 use Rattle.usb_statement.specs.Sayable.{IsSayable}
-use Rattle.usb_statement.specs.Printed.{keyword_text, kind_text, item_text, option_words, words_said}
+use Rattle.usb_statement.specs.Printed.{keyword_text, kind_text, item_text, option_words, setup_words, sent_words, words_said}
 use Rattle.usb_statement.specs.declared.statement.Statement.{Statement}
 use Rattle.usb_statement.specs.declared.statement.Statement.TheVariants as say
 use Rattle.usb_statement.specs.declared.keyword.Keyword.{Keyword}
@@ -23,6 +24,7 @@ use Rattle.usb_statement.specs.declared.keyword.UrbCall.TheVariants.{Unlink, Kil
 use Rattle.usb_statement.specs.declared.keyword.BareCall.{BareCall}
 use Rattle.usb_statement.specs.declared.keyword.BareCall.TheVariants.{Serve, Down, Up}
 use Rattle.usb_statement.proofs.BackWords.{back_name, back_end, back_kind, back_items, back_options, back_urb, back_sent}
+use Rattle.usb_statement.proofs.Setups.{back_first, back_behind}
 
 back_on_urb : (call : UrbCall) → keyword_of (keyword_text (word.OnUrb call)) ≡ Some (word.OnUrb call)
 back_on_urb Unlink = refl
@@ -57,18 +59,20 @@ back_words (say.Ep address kind size interval) h =
     ∙ ap (λ o. option_and_then (λ s. option_and_then (λ i. Some (say.Ep address kind s i)) (number_of (fmt.decimal interval))) o) (number_of-decimal size h.size_number)
     ∙ ap (λ o. option_and_then (λ i. Some (say.Ep address kind size i)) o) (number_of-decimal interval h.interval_number)
 back_words (say.Answer address items) h =
-    ap (λ o. option_and_then (λ a. option_and_then (λ is. answer_with a is) (items_of (map item_text items))) o) (back_end address h.address_of_end)
+    ap (λ o. option_and_then (λ a. option_and_then (λ is. answer_with a is) (items_of (map item_text items))) o) (address_of-hex_pair address h.valid)
     ∙ ap (λ o. option_and_then (λ is. answer_with address is) o) (back_items items h.each)
     ∙ ap (λ t. cond t (Some (say.Answer address items)) None) (and_from (not (is_empty items)) (are_items_of address items) (not_from_false (is_empty items) h.some) h.fit)
 back_words (say.Urb name device address options) h =
-    ap (λ o. option_and_then (λ n. option_and_then (λ d. option_and_then (λ a. option_and_then (λ os. Some (say.Urb n d a os)) (options_of (flat_map option_words options))) (end_of (hex_pair address))) (name_of device)) o) (back_name name h.named)
-    ∙ ap (λ o. option_and_then (λ d. option_and_then (λ a. option_and_then (λ os. Some (say.Urb name d a os)) (options_of (flat_map option_words options))) (end_of (hex_pair address))) o) (back_name device h.on_device)
-    ∙ ap (λ o. option_and_then (λ a. option_and_then (λ os. Some (say.Urb name device a os)) (options_of (flat_map option_words options))) o) (back_end address h.address_of_end)
+    ap (λ o. option_and_then (λ n. option_and_then (λ d. option_and_then (λ a. option_and_then (λ os. Some (say.Urb n d a os)) (options_of (flat_map option_words options))) (address_of (hex_pair address))) (name_of device)) o) (back_name name h.named)
+    ∙ ap (λ o. option_and_then (λ d. option_and_then (λ a. option_and_then (λ os. Some (say.Urb name d a os)) (options_of (flat_map option_words options))) (address_of (hex_pair address))) o) (back_name device h.on_device)
+    ∙ ap (λ o. option_and_then (λ a. option_and_then (λ os. Some (say.Urb name device a os)) (options_of (flat_map option_words options))) o) (address_of-hex_pair address h.valid)
     ∙ ap (λ o. option_and_then (λ os. Some (say.Urb name device address os)) o) (back_options options h.each)
 back_words (say.Thread name) h = ap (option_map (λ n. say.Thread n)) (back_name name h)
-back_words (say.Submit urb None) h = ap (λ o. option_and_then (λ u. Some (say.Submit u None)) o) (back_urb urb h.0)
-back_words (say.Submit urb (Some bytes)) h =
-    ap (λ o. option_and_then (λ u. option_and_then (λ sent. Some (say.Submit u sent)) (sent_of (hex_text bytes ∷ []))) o) (back_urb urb h.0)
-    ∙ ap (λ o. option_and_then (λ sent. Some (say.Submit urb sent)) o) (back_sent bytes h.1.0 h.1.1)
+back_words (say.Submit urb setup bytes) h =
+    let texts = setup_words setup ++ sent_words bytes in
+    ap (λ o. option_and_then (λ u. option_and_then (λ sent. Some (say.Submit u (setup_first texts) sent)) (sent_of (behind_setup texts))) o) (back_urb urb h.0)
+    ∙ ap (λ t. option_and_then (λ sent. Some (say.Submit urb (setup_first texts) sent)) (sent_of t)) (back_behind setup bytes h.1 h.2)
+    ∙ ap (λ o. option_and_then (λ sent. Some (say.Submit urb (setup_first texts) sent)) o) (back_sent bytes h.2)
+    ∙ ap (λ packet. Some (say.Submit urb packet bytes)) (back_first setup bytes h.1 h.2)
 back_words (say.OnUrb call urb) h = ap (option_map (λ u. say.OnUrb call u)) (back_urb urb h)
 back_words (say.Alone call) h = refl

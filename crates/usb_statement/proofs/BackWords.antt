@@ -1,5 +1,5 @@
 -- Words that are printed are read again.
-use Rattle.std.proofs.Common.{◌≡◌, ℕ, ◌<◌, ◌≤◌, ◌^◌, true, false, cond, eqb, List, [], ◌∷◌, ◌++◌, length, take, map, Some, None, refl, ap, ◌∙◌, arith, lit<, append-nil}
+use Rattle.std.proofs.Common.{◌≡◌, ℕ, ◌<◌, ◌≤◌, ◌^◌, true, false, cond, eqb, List, [], ◌∷◌, ◌++◌, length, take, map, Option, Some, None, refl, ap, ◌∙◌, arith, lit<, append-nil}
 use Rattle.std.specs.Prelude.{nat_le, ◌&&◌, codes, option_and_then, slice_index}
 use Rattle.std.specs.Fmt as fmt
 use Rattle.std.specs.Option.{option_map}
@@ -28,8 +28,8 @@ use Rattle.usb_statement.specs.Items.{what_of, times_of, item_parts, item_of, it
 use Rattle.usb_statement.specs.Options.{number_option, options_of}
 use Rattle.usb_statement.specs.UrbNames.{name_of, role_of, role_parts, driver_parts, urb_name_of}
 use Rattle.usb_statement.specs.Statements.{end_of, kind_of, sent_of}
-use Rattle.usb_statement.specs.Sayable.{IsEndAddress, is_end_kind, IsPacket, IsSayableItem, IsSayableOption, IsUrbName}
-use Rattle.usb_statement.specs.Printed.{kind_text, role_text, what_text, item_text, option_words, urb_text}
+use Rattle.usb_statement.specs.Sayable.{IsEndAddress, is_end_kind, IsPacket, IsSayableItem, IsSayableOption, IsUrbName, IsSent}
+use Rattle.usb_statement.specs.Printed.{kind_text, role_text, what_text, item_text, option_words, urb_text, sent_words}
 use Rattle.usb_statement.specs.declared.options.UrbOption.{UrbOption}
 use Rattle.usb_statement.specs.declared.options.UrbOption.TheVariants.{Len, Again, Short}
 use Rattle.usb_statement.specs.declared.urb_name.UrbName.{UrbName}
@@ -127,8 +127,12 @@ back_urb (Driver device number r) h =
     ∙ ap (λ o. option_and_then (λ n. option_and_then (λ role. Some (Driver device n role)) (role_of (role_text r))) o) (number_of-decimal number h.1)
     ∙ ap (λ o. option_and_then (λ role. Some (Driver device number role)) o) (back_role r)
 
-pub back_sent : (bytes : List ℕ) → AreBytes bytes → length bytes ≤ 16385 → sent_of (hex_text bytes ∷ []) ≡ Some (Some bytes)
-back_sent bytes h few =
+back_data : (bytes : List ℕ) → AreBytes bytes → length bytes ≤ 16385 → sent_of (hex_text bytes ∷ []) ≡ Some (Some bytes)
+back_data bytes h few =
     ap (λ o. option_map (λ b. Some b) (option_map (λ b. take 16385 b) (option_and_then (λ b. Some (b ++ [])) o))) (data_of-hex_text bytes h)
     ∙ ap (λ b. Some (Some (take 16385 b))) (append-nil bytes)
     ∙ ap (λ b. Some (Some b)) (take_all 16385 bytes few)
+
+pub back_sent : (sent : Option (List ℕ)) → IsSent sent → sent_of (sent_words sent) ≡ Some sent
+back_sent None h = refl
+back_sent (Some bytes) h = back_data bytes h.0 h.1

@@ -1,5 +1,5 @@
 -- What is printed is words of printable bytes.
-use Rattle.std.proofs.Common.{◌≡◌, ℕ, ◌<◌, ◌≤◌, ◌^◌, ◌/◌, ◌%◌, Bool, true, false, eqb, inl, inr, List, [], ◌∷◌, ◌++◌, length, map, Some, None, refl, sym, ◌∙◌, arith, subst, lit<, length-append}
+use Rattle.std.proofs.Common.{◌≡◌, ℕ, ◌<◌, ◌≤◌, ◌^◌, ◌/◌, ◌%◌, Bool, true, false, eqb, inl, inr, List, [], ◌∷◌, ◌++◌, length, map, Option, Some, None, refl, sym, ◌∙◌, arith, subst, lit<, length-append}
 use Rattle.std.specs.Prelude.{nat_le, ◌&&◌, ◌||◌, codes, slice_index}
 use Rattle.std.specs.Fmt as fmt
 use Rattle.std.specs.List.{All, list_all, flat_map}
@@ -14,7 +14,7 @@ use Rattle.usb_machine.specs.declared.layout.EndKind.{EndKind}
 use Rattle.usb_machine.specs.declared.layout.EndKind.TheVariants.{Control, Bulk, Interrupt, Iso}
 use Rattle.usb_text.specs.Lines.{is_plain}
 use Rattle.usb_text.specs.Words.{is_blank}
-use Rattle.usb_text.specs.Kinds.{is_name, is_name_byte}
+use Rattle.usb_text.specs.Kinds.{is_name, is_name_byte, is_address}
 use Rattle.usb_text.specs.Print.{hex_pair, hex_text}
 use Rattle.usb_text.specs.Written.{AreBytes, IsWord, HasNoBlank, AreWords, spaced}
 use Rattle.usb_text.proofs.Back.{own}
@@ -24,8 +24,8 @@ use Rattle.usb_xfer.specs.declared.script.What.{What}
 use Rattle.usb_xfer.specs.declared.script.What.TheVariants.{Ack, Nak, Stall, Error, Packet}
 use Rattle.usb_xfer.specs.declared.script.Item.{Item}
 use Rattle.usb_statement.specs.Statements.{keyword_said}
-use Rattle.usb_statement.specs.Sayable.{IsSayable, IsEndAddress, IsPacket, IsSayableItem, IsSayableOption, IsUrbName}
-use Rattle.usb_statement.specs.Printed.{urb_call_text, bare_call_text, keyword_text, kind_text, role_text, what_text, item_text, option_words, urb_text, words_said, line_said}
+use Rattle.usb_statement.specs.Sayable.{IsSayable, IsPacket, IsSayableItem, IsSayableOption, IsUrbName, IsSetup, IsSent}
+use Rattle.usb_statement.specs.Printed.{urb_call_text, bare_call_text, keyword_text, kind_text, role_text, what_text, item_text, option_words, urb_text, setup_words, sent_words, words_said, line_said}
 use Rattle.usb_statement.specs.declared.options.UrbOption.{UrbOption}
 use Rattle.usb_statement.specs.declared.options.UrbOption.TheVariants.{Len, Again, Short}
 use Rattle.usb_statement.specs.declared.urb_name.UrbName.{UrbName}
@@ -100,9 +100,9 @@ pairs_are_ink [] h = refl
 pairs_are_ink (b ∷ bytes) h =
     joined_ink (hex_pair b) (flat_map hex_pair bytes) (pair_is_ink b (All-head (λ x. x < 256) b bytes h)) (pairs_are_ink bytes (All-tail (λ x. x < 256) b bytes h))
 
-inked_address : (address : ℕ) → IsEndAddress address → IsInked (hex_pair address)
+inked_address : (address : ℕ) → is_address address ≡ true → IsInked (hex_pair address)
 inked_address address h =
-    let small = address_range address h.valid in
+    let small = address_range address h in
     record { some = omega arith; ink = pair_is_ink address (omega arith) }
 
 inked_data : (bytes : List ℕ) → AreBytes bytes → IsInked (hex_text bytes)
@@ -161,6 +161,14 @@ inked_urb (Driver device number r) h =
     let behind = inked_between (fmt.decimal number) (role_text r) 46 (inked_number number h.1) refl (role_is_ink r) in
     inked_between device (fmt.decimal number ++ 46 ∷ role_text r) 46 (inked_name device h.0) refl behind.ink
 
+inked_setup : (setup : Option (List ℕ)) (texts : List (List ℕ)) → IsSetup setup → AreInked texts → AreInked (setup_words setup ++ texts)
+inked_setup None texts h g = g
+inked_setup (Some bytes) texts h g = (record { some = omega arith; ink = joined_ink (codes "setup:") (flat_map hex_pair bytes) refl (pairs_are_ink bytes h.0) }, g)
+
+inked_sent : (sent : Option (List ℕ)) → IsSent sent → AreInked (sent_words sent)
+inked_sent None h = tt
+inked_sent (Some bytes) h = (inked_data bytes h.0, tt)
+
 inked_on_urb : (call : UrbCall) → IsInked (urb_call_text call)
 inked_on_urb Unlink = record { some = lit< tt; ink = refl }
 inked_on_urb Kill = record { some = lit< tt; ink = refl }
@@ -187,13 +195,12 @@ inked_keyword (word.Alone call) = inked_alone call
 inked_words : (st : Statement) → IsSayable st → AreInked (words_said st)
 inked_words (say.Device name) h = (inked_name name h, (record { some = lit< tt; ink = refl }, tt))
 inked_words (say.Ep address kind size interval) h =
-    (inked_address address h.address_of_end, (inked_kind kind, (inked_number size h.size_number, (inked_number interval h.interval_number, tt))))
-inked_words (say.Answer address items) h = (inked_address address h.address_of_end, inked_items items h.each)
+    (inked_address address h.address_of_end.valid, (inked_kind kind, (inked_number size h.size_number, (inked_number interval h.interval_number, tt))))
+inked_words (say.Answer address items) h = (inked_address address h.valid, inked_items items h.each)
 inked_words (say.Urb name device address options) h =
-    (inked_name name h.named, (inked_name device h.on_device, (inked_address address h.address_of_end, inked_options options h.each)))
+    (inked_name name h.named, (inked_name device h.on_device, (inked_address address h.valid, inked_options options h.each)))
 inked_words (say.Thread name) h = (inked_name name h, tt)
-inked_words (say.Submit urb None) h = (inked_urb urb h.0, tt)
-inked_words (say.Submit urb (Some bytes)) h = (inked_urb urb h.0, (inked_data bytes h.1.0, tt))
+inked_words (say.Submit urb setup bytes) h = (inked_urb urb h.0, inked_setup setup (sent_words bytes) h.1 (inked_sent bytes h.2))
 inked_words (say.OnUrb call urb) h = (inked_urb urb h, tt)
 inked_words (say.Alone call) h = tt
 

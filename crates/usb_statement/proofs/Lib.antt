@@ -4,3 +4,4 @@ pub mod Ink
 pub mod Kept
 pub mod SaidLines
 pub mod SaidWords
+pub mod Setups

@@ -1,26 +1,28 @@
 -- What holds of what a line says.
-use Rattle.std.proofs.Common.{◌≡◌, ℕ, not, List, [], ◌∷◌, Some, subst}
+use Rattle.std.proofs.Common.{◌≡◌, ℕ, true, not, List, [], ◌∷◌, Some, subst}
 use Rattle.std.specs.Prelude.{◌&&◌, codes}
 use Rattle.std.specs.List.{All}
 use Rattle.std.specs.Str.{bytes_eq}
 use Rattle.std.proofs.lemmas.Bool.{and_parts, not-true}
 use Rattle.std.proofs.lemmas.Option.{option_and_then_some, same_Some}
-use Rattle.usb_text.specs.Kinds.{number_of}
+use Rattle.usb_text.specs.Kinds.{number_of, is_address, address_of}
 use Rattle.usb_text.proofs.Known.{some_if}
 use Rattle.usb_text.proofs.KnownBytes.{small_number}
 use Rattle.usb_xfer.specs.declared.script.Item.{Item}
 use Rattle.usb_statement.specs.Items.{items_of, are_items_of}
 use Rattle.usb_statement.specs.Options.{options_of}
+use Rattle.usb_statement.specs.Setups.{setup_first, behind_setup}
 use Rattle.usb_statement.specs.UrbNames.{name_of, urb_name_of}
 use Rattle.usb_statement.specs.Statements.{end_of, kind_of, sent_of, is_empty, answer_with, statement_of}
-use Rattle.usb_statement.specs.Sayable.{IsSayable, IsEndAddress, IsSayableItem}
+use Rattle.usb_statement.specs.Sayable.{IsSayable, IsSayableItem}
 use Rattle.usb_statement.specs.declared.statement.Statement.{Statement}
 use Rattle.usb_statement.specs.declared.statement.Statement.TheVariants as say
 use Rattle.usb_statement.specs.declared.keyword.Keyword.{Keyword}
 use Rattle.usb_statement.specs.declared.keyword.Keyword.TheVariants as word
 use Rattle.usb_statement.specs.declared.keyword.UrbCall.{UrbCall}
 use Rattle.usb_statement.specs.declared.keyword.BareCall.{BareCall}
-use Rattle.usb_statement.proofs.SaidWords.{option_map_some, said_name, said_end, said_kind, said_items, said_options, said_urb, said_sent}
+use Rattle.usb_statement.proofs.SaidWords.{option_map_some, said_name, said_address, said_end, said_kind, said_items, said_options, said_urb, said_sent}
+use Rattle.usb_statement.proofs.Setups.{said_setup}
 
 said_device : (texts : List (List ℕ)) (st : Statement) → statement_of word.Device texts ≡ Some st → IsSayable st
 said_device [] st h = cc
@@ -48,18 +50,18 @@ said_ep (a ∷ k ∷ s ∷ i ∷ []) st h =
     })))))
 said_ep (a ∷ k ∷ s ∷ i ∷ more ∷ texts) st h = cc
 
-said_answer_with : (address : ℕ) (items : List Item) (st : Statement) → IsEndAddress address → All IsSayableItem items → answer_with address items ≡ Some st → IsSayable st
-said_answer_with address items st end each h =
+said_answer_with : (address : ℕ) (items : List Item) (st : Statement) → is_address address ≡ true → All IsSayableItem items → answer_with address items ≡ Some st → IsSayable st
+said_answer_with address items st valid each h =
     let p = some_if (not (is_empty items) && are_items_of address items) (say.Answer address items) st h in
     let q = and_parts (not (is_empty items)) (are_items_of address items) p.0 in
-    subst IsSayable p.1 (record { address_of_end = end; some = not-true (is_empty items) q.0; each = each; fit = q.1 })
+    subst IsSayable p.1 (record { valid = valid; some = not-true (is_empty items) q.0; each = each; fit = q.1 })
 
 said_answer : (texts : List (List ℕ)) (st : Statement) → statement_of word.Answer texts ≡ Some st → IsSayable st
 said_answer [] st h = cc
 said_answer (a ∷ texts) st h =
-    option_and_then_some _ (end_of a) st h (λ address e g.
+    option_and_then_some _ (address_of a) st h (λ address e g.
     option_and_then_some _ (items_of texts) st g (λ items e2 g2.
-    said_answer_with address items st (said_end a address e) (said_items texts items e2) g2))
+    said_answer_with address items st (said_address a address e) (said_items texts items e2) g2))
 
 said_urb_line : (texts : List (List ℕ)) (st : Statement) → statement_of word.Urb texts ≡ Some st → IsSayable st
 said_urb_line [] st h = cc
@@ -68,12 +70,12 @@ said_urb_line (a ∷ b ∷ []) st h = cc
 said_urb_line (n ∷ d ∷ a ∷ texts) st h =
     option_and_then_some _ (name_of n) st h (λ name e g.
     option_and_then_some _ (name_of d) st g (λ device e2 g2.
-    option_and_then_some _ (end_of a) st g2 (λ address e3 g3.
+    option_and_then_some _ (address_of a) st g2 (λ address e3 g3.
     option_and_then_some _ (options_of texts) st g3 (λ options e4 g4.
     subst IsSayable (same_Some (say.Urb name device address options) st g4) (record {
       named = said_name n name e;
       on_device = said_name d device e2;
-      address_of_end = said_end a address e3;
+      valid = said_address a address e3;
       each = said_options texts options e4;
     })))))
 
@@ -86,8 +88,8 @@ said_submit : (texts : List (List ℕ)) (st : Statement) → statement_of word.S
 said_submit [] st h = cc
 said_submit (text ∷ texts) st h =
     option_and_then_some _ (urb_name_of text) st h (λ urb e g.
-    option_and_then_some _ (sent_of texts) st g (λ bytes e2 g2.
-    subst IsSayable (same_Some (say.Submit urb bytes) st g2) (said_urb text urb e, said_sent texts bytes e2)))
+    option_and_then_some _ (sent_of (behind_setup texts)) st g (λ bytes e2 g2.
+    subst IsSayable (same_Some (say.Submit urb (setup_first texts) bytes) st g2) (said_urb text urb e, said_setup texts, said_sent (behind_setup texts) bytes e2)))
 
 said_on_urb : (call : UrbCall) (texts : List (List ℕ)) (st : Statement) → statement_of (word.OnUrb call) texts ≡ Some st → IsSayable st
 said_on_urb call [] st h = cc

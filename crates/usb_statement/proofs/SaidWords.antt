@@ -36,13 +36,17 @@ option_map_some f (Some x) y h k = k x refl (same_Some (f x) y h)
 pub said_name : (text name : List ℕ) → name_of text ≡ Some name → is_name name ≡ true
 said_name text name h = let p = some_if (is_name text) text name h in subst (λ x. is_name x ≡ true) p.1 p.0
 
+pub said_address : (text : List ℕ) (address : ℕ) → address_of text ≡ Some address → is_address address ≡ true
+said_address text address h =
+    option_and_then_some _ (byte_of text) address h (λ b e g.
+    let p = some_if (is_address b) b address g in
+    subst (λ x. is_address x ≡ true) p.1 p.0)
+
 pub said_end : (text : List ℕ) (address : ℕ) → end_of text ≡ Some address → IsEndAddress address
 said_end text address h =
     option_and_then_some _ (address_of text) address h (λ a e g.
-    option_and_then_some _ (byte_of text) a e (λ b e2 g2.
-    let p = some_if (is_address b) b a g2 in
     let q = some_unless (eqb a 0) a address g in
-    subst IsEndAddress q.1 (record { valid = subst (λ x. is_address x ≡ true) p.1 p.0; some = q.0 })))
+    subst IsEndAddress q.1 (record { valid = said_address text a e; some = q.0 }))
 
 kind_cases : (b i s : Bool) (kind : EndKind) → cond b (Some Bulk) (cond i (Some Interrupt) (cond s (Some Iso) None)) ≡ Some kind → is_end_kind kind ≡ true
 kind_cases true i s kind h = subst (λ k. is_end_kind k ≡ true) (same_Some Bulk kind h) refl

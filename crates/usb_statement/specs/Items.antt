@@ -1,5 +1,5 @@
 -- ITEM: what a device answers, as an `answer` line says it.
-use Rattle.std.specs.Prelude.{ℕ, ◌&&◌, nat_le, if◌then◌else◌, List, [], ◌∷◌, Option, Some, None, codes, Bool, not, true}
+use Rattle.std.specs.Prelude.{ℕ, ◌==◌, ◌&&◌, ◌||◌, nat_le, if◌then◌else◌, List, [], ◌∷◌, Option, Some, None, codes, Bool, not, true}
 use Rattle.std.specs.Option.{option_map}
 use Rattle.std.specs.List.{list_all}
 use Rattle.std.specs.Str.{bytes_eq}
@@ -54,6 +54,10 @@ is_reply_of goes Stall = true
 is_reply_of goes Error = true
 is_reply_of goes (Packet bytes) = goes
 
+-- at 00 control transfers go both ways, so all replies fit
+abbrev pub is_reply_at : ℕ → What → Bool
+is_reply_at address what = address == 0 || is_reply_of (goes_in address) what
+
 -- items that the endpoint at an address can give
 abbrev pub are_items_of : ℕ → List Item → Bool
-are_items_of address items = list_all (λ (item : Item). is_reply_of (goes_in address) item.what) items
+are_items_of address items = list_all (λ (item : Item). is_reply_at address item.what) items

@@ -1,5 +1,5 @@
 -- The line that says a statement.
-use Rattle.std.specs.Prelude.{ℕ, List, [], ◌∷◌, ◌++◌, map, Some, None, codes, decimal}
+use Rattle.std.specs.Prelude.{ℕ, List, [], ◌∷◌, ◌++◌, map, Option, Some, None, codes, decimal}
 use Rattle.std.specs.List.{flat_map}
 use Rattle.usb_types.specs.declared.urb.Role.{Role}
 use Rattle.usb_types.specs.declared.urb.Role.TheVariants as role
@@ -84,6 +84,16 @@ abbrev pub urb_text : UrbName → List ℕ
 urb_text (Scripted name) = name
 urb_text (Driver device number role) = device ++ 46 ∷ (decimal number ++ 46 ∷ role_text role)
 
+-- the word of a setup packet, if there is one
+abbrev pub setup_words : Option (List ℕ) → List (List ℕ)
+setup_words None = []
+setup_words (Some bytes) = (codes "setup:" ++ flat_map hex_pair bytes) ∷ []
+
+-- the word of what is sent, if anything is
+abbrev pub sent_words : Option (List ℕ) → List (List ℕ)
+sent_words None = []
+sent_words (Some bytes) = hex_text bytes ∷ []
+
 -- the words behind the first one
 abbrev pub words_said : Statement → List (List ℕ)
 words_said (say.Device name) = name ∷ codes "raw" ∷ []
@@ -91,8 +101,7 @@ words_said (say.Ep address kind size interval) = hex_pair address ∷ kind_text 
 words_said (say.Answer address items) = hex_pair address ∷ map item_text items
 words_said (say.Urb name device address options) = name ∷ device ∷ hex_pair address ∷ flat_map option_words options
 words_said (say.Thread name) = name ∷ []
-words_said (say.Submit urb None) = urb_text urb ∷ []
-words_said (say.Submit urb (Some bytes)) = urb_text urb ∷ hex_text bytes ∷ []
+words_said (say.Submit urb setup bytes) = urb_text urb ∷ (setup_words setup ++ sent_words bytes)
 words_said (say.OnUrb call urb) = urb_text urb ∷ []
 words_said (say.Alone call) = []
 

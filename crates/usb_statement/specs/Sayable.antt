@@ -52,6 +52,11 @@ abbrev pub IsUrbName : UrbName → Type 0
 IsUrbName (Scripted name) = is_name name ≡ true
 IsUrbName (Driver device number role) = (is_name device ≡ true) × IsNumber number
 
+-- a setup packet has eight bytes
+abbrev pub IsSetup : Option (List ℕ) → Type 0
+IsSetup None = Unit {0}
+IsSetup (Some bytes) = AreBytes bytes × (length bytes ≡ 8)
+
 -- bytes to send, of which no more is kept than one above the most of a buffer
 abbrev pub IsSent : Option (List ℕ) → Type 0
 IsSent None = Unit {0}
@@ -64,7 +69,7 @@ pub record IsEpLine (address : ℕ) (kind : EndKind) (size interval : ℕ) : Typ
   pub interval_number : IsNumber interval
 
 pub record IsAnswerLine (address : ℕ) (items : List Item) : Type 0 where
-  pub address_of_end : IsEndAddress address
+  pub valid : is_address address ≡ true
   pub some : is_empty items ≡ false
   pub each : All IsSayableItem items
   pub fit : are_items_of address items ≡ true
@@ -72,7 +77,7 @@ pub record IsAnswerLine (address : ℕ) (items : List Item) : Type 0 where
 pub record IsUrbLine (name device : List ℕ) (address : ℕ) (options : List UrbOption) : Type 0 where
   pub named : is_name name ≡ true
   pub on_device : is_name device ≡ true
-  pub address_of_end : IsEndAddress address
+  pub valid : is_address address ≡ true
   pub each : All IsSayableOption options
 
 -- what holds of a statement that some line says
@@ -82,6 +87,6 @@ IsSayable (say.Ep address kind size interval) = IsEpLine address kind size inter
 IsSayable (say.Answer address items) = IsAnswerLine address items
 IsSayable (say.Urb name device address options) = IsUrbLine name device address options
 IsSayable (say.Thread name) = is_name name ≡ true
-IsSayable (say.Submit urb bytes) = IsUrbName urb × IsSent bytes
+IsSayable (say.Submit urb setup bytes) = IsUrbName urb × IsSetup setup × IsSent bytes
 IsSayable (say.OnUrb call urb) = IsUrbName urb
 IsSayable (say.Alone call) = Unit {0}

@@ -10,6 +10,7 @@ use Rattle.usb_xfer.specs.declared.script.Item.{Item}
 use Rattle.usb_statement.specs.Chain.{◌>>=◌}
 use Rattle.usb_statement.specs.Items.{items_of, are_items_of}
 use Rattle.usb_statement.specs.Options.{options_of}
+use Rattle.usb_statement.specs.Setups.{setup_first, behind_setup}
 use Rattle.usb_statement.specs.UrbNames.{name_of, urb_name_of}
 use Rattle.usb_statement.specs.declared.statement.Statement.{Statement}
 use Rattle.usb_statement.specs.declared.statement.Statement.TheVariants as say
@@ -106,20 +107,20 @@ statement_of word.Ep (address ∷ kind ∷ size ∷ interval ∷ []) = do
   interval ← number_of interval
   Some (say.Ep address kind size interval)
 statement_of word.Answer (address ∷ items) = do
-  address ← end_of address
+  address ← address_of address
   items ← items_of items
   answer_with address items
 statement_of word.Urb (name ∷ device ∷ address ∷ options) = do
   name ← name_of name
   device ← name_of device
-  address ← end_of address
+  address ← address_of address
   options ← options_of options
   Some (say.Urb name device address options)
 statement_of word.Thread (name ∷ []) = option_map (λ name. say.Thread name) (name_of name)
 statement_of word.Submit (urb ∷ texts) = do
   urb ← urb_name_of urb
-  bytes ← sent_of texts
-  Some (say.Submit urb bytes)
+  bytes ← sent_of (behind_setup texts)
+  Some (say.Submit urb (setup_first texts) bytes)
 statement_of (word.OnUrb call) (urb ∷ []) = option_map (λ urb. say.OnUrb call urb) (urb_name_of urb)
 statement_of (word.Alone call) [] = Some (say.Alone call)
 statement_of _ _ = None
@@ -131,6 +132,6 @@ keyword_said (say.Ep address kind size interval) = word.Ep
 keyword_said (say.Answer address items) = word.Answer
 keyword_said (say.Urb name device address options) = word.Urb
 keyword_said (say.Thread name) = word.Thread
-keyword_said (say.Submit urb bytes) = word.Submit
+keyword_said (say.Submit urb setup bytes) = word.Submit
 keyword_said (say.OnUrb call urb) = word.OnUrb call
 keyword_said (say.Alone call) = word.Alone call

@@ -1,8 +1,8 @@
 //! What a device answers, as a line says it.
-ghost use Rattle.std.specs.Prelude.{◌≡◌, ◌==◌, not, nat_le, ◌&&◌, if◌then◌else◌, Some, None, IfOk};
+ghost use Rattle.std.specs.Prelude.{◌≡◌, ◌==◌, not, nat_le, ◌&&◌, ◌||◌, if◌then◌else◌, Some, None, IfOk};
 ghost use Rattle.usb_text.specs.Words.{words};
 ghost use Rattle.usb_xfer.specs.Direction.{goes_in};
-ghost use Rattle.usb_statement.specs.Items.{what_of, times_of, item_of, items_of, is_reply_of, are_items_of};
+ghost use Rattle.usb_statement.specs.Items.{what_of, times_of, item_of, items_of, is_reply_of, is_reply_at, are_items_of};
 
 use std::alloc::Global;
 use usb_text::{cut, is_text, next_word, number, payload};
@@ -74,10 +74,16 @@ fn is_reply_of(goes_in: bool, what: &What) -> bool
     }
 }
 
+// At 00 control transfers go both ways, so all replies fit.
+fn is_reply_at(address: u8, what: &What) -> bool
+    ensures { result ≡ is_reply_at address what.now }
+{
+    address == 0 || is_reply_of(is_in(address), what)
+}
+
 /// Whether the endpoint at an address can give these items.
 pub fn are_items_of(address: u8, items: &[Item]) -> bool
     ensures { result ≡ are_items_of address items.now }
 {
-    let goes_in = is_in(address);
-    items.iter().all(|item| is_reply_of(goes_in, &item.what))
+    items.iter().all(|item| is_reply_at(address, &item.what))
 }

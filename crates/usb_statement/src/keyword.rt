@@ -1,6 +1,7 @@
 //! The first word of a line.
 ghost use Rattle.std.specs.Prelude.{◌≡◌};
 ghost use Rattle.usb_statement.specs.Statements.{urb_call_of, bare_call_of, call_keyword, keyword_of};
+ghost use Rattle.usb_statement.specs.Printed.{urb_call_text, bare_call_text};
 
 use usb_text::is_text;
 
@@ -15,12 +16,41 @@ pub enum UrbCall {
     Unblock,
 }
 
+impl UrbCall {
+    /// The word that says the call.
+    pub fn word(self) -> &'static str
+        ensures { result.now ≡ urb_call_text self }
+    {
+        match self {
+            UrbCall::Unlink => "unlink",
+            UrbCall::Kill => "kill",
+            UrbCall::Poison => "poison",
+            UrbCall::Unpoison => "unpoison",
+            UrbCall::Block => "block",
+            UrbCall::Unblock => "unblock",
+        }
+    }
+}
+
 /// A call on nothing.
 #[derive(Clone, Copy, Debug, PartialEq, Eq)]
 pub enum BareCall {
     Serve,
     Down,
     Up,
+}
+
+impl BareCall {
+    /// The word that says the call.
+    pub fn word(self) -> &'static str
+        ensures { result.now ≡ bare_call_text self }
+    {
+        match self {
+            BareCall::Serve => "serve",
+            BareCall::Down => "down",
+            BareCall::Up => "up",
+        }
+    }
 }
 
 /// What the first word of a line may be.

@@ -4,6 +4,7 @@
 mod items;
 mod keyword;
 mod options;
+mod setup_packet;
 mod statement;
 mod statement_laws;
 mod urb_name;

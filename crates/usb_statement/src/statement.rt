@@ -8,6 +8,7 @@ ghost use Rattle.usb_statement.specs.declared.keyword.Keyword.TheVariants as wor
 use crate::items::{are_items_of, read_items};
 use crate::keyword::{BareCall, Keyword, UrbCall};
 use crate::options::{UrbOption, read_options};
+use crate::setup_packet::split_setup;
 use crate::urb_name::{UrbName, read_urb_name};
 use std::alloc::Global;
 use usb_machine::EndKind;
@@ -42,6 +43,7 @@ pub enum Statement {
     },
     Submit {
         urb: UrbName,
+        setup: Option<[u8; 8]>,
         bytes: Option<Buf>,
     },
     OnUrb {
@@ -133,14 +135,14 @@ fn answer(address: u8, items: List<Item>) -> Option<Statement>
 fn answer_of(alloc: Global, line: &[u8]) -> Result<Option<Statement>, Memory>
     ensures { IfOk result (λ statement. statement ≡ statement_of word.Answer (words line.now)) }
 {
-    let Some((address, line)) = next_word(line) else {
+    let Some((word, line)) = next_word(line) else {
         return Ok(None);
     };
-    let Some(address) = end_address(address) else {
+    let Some(at) = address(word) else {
         return Ok(None);
     };
     match read_items(alloc, line)? {
-        Some(items) => Ok(answer(address, items)),
+        Some(items) => Ok(answer(at, items)),
         None => Ok(None),
     }
 }
@@ -149,15 +151,15 @@ fn urb(
     alloc: Global,
     name: &[u8],
     device: &[u8],
-    address: &[u8],
+    place: &[u8],
     options: &[u8],
 ) -> Result<Option<Statement>, Memory>
-    ensures { IfOk result (λ statement. statement ≡ statement_of word.Urb (name.now ∷ device.now ∷ address.now ∷ words options.now)) }
+    ensures { IfOk result (λ statement. statement ≡ statement_of word.Urb (name.now ∷ device.now ∷ place.now ∷ words options.now)) }
 {
     if !is_name(name) || !is_name(device) {
         return Ok(None);
     }
-    match (end_address(address), read_options(alloc, options)?) {
+    match (address(place), read_options(alloc, options)?) {
         (Some(address), Some(options)) => {
             let name = copy(alloc, name)?;
             let device = copy(alloc, device)?;
@@ -243,8 +245,9 @@ fn submit_of(alloc: Global, line: &[u8]) -> Result<Option<Statement>, Memory>
     let Some(urb) = read_urb_name(alloc, urb)? else {
         return Ok(None);
     };
+    let (setup, line) = split_setup(line);
     match sent(alloc, line)? {
-        Some(bytes) => Ok(Some(Statement::Submit { urb, bytes })),
+        Some(bytes) => Ok(Some(Statement::Submit { urb, setup, bytes })),
         None => Ok(None),
     }
 }

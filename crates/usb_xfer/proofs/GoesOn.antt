@@ -15,10 +15,11 @@ use Rattle.usb_machine.specs.Shapes.{HasWindow}
 use Rattle.usb_xfer.specs.declared.script.What.TheVariants.{Ack, Nak, Stall, Error, Packet}
 use Rattle.usb_xfer.specs.declared.packet.Step.{Step}
 use Rattle.usb_xfer.specs.declared.packet.Step.TheVariants.{More, Ended}
-use Rattle.usb_xfer.specs.Direction.{Direction, In, Out, direction_of}
+use Rattle.usb_xfer.specs.Direction.{Direction, In, Out, ControlIn, ControlOut, direction_of}
 use Rattle.usb_xfer.specs.Replies.{Reply}
 use Rattle.usb_xfer.specs.Input.{input_moves, input_step}
 use Rattle.usb_xfer.specs.Output.{size_of_next, output_moves, output_step}
+use Rattle.usb_xfer.specs.Control.{control_in_step, control_out_step}
 use Rattle.usb_xfer.specs.Moved.{moved, moved_state, state_by, IsOpen, IsWhole, reply_moves, moves_by, reply_step, step_by, Advances}
 use Rattle.usb_xfer.specs.On.{GoneOn, RunsOn}
 use Rattle.usb_xfer.proofs.Windows.{window_kept}
@@ -60,13 +61,30 @@ output_falls max Ack t m w e = go (t.actual + size_of_next max t == t.len) refl 
     go false q h = let a = w.within in
         let less : t.actual + min max (t.len - t.actual) ≢ t.len = grind (arith, common_steps) in omega arith
 
+-- a control transfer never goes on
+control_in_stays : (r : Reply) (t : Transfer) → control_in_step r t ≢ More
+control_in_stays Ack t e = cc
+control_in_stays Nak t e = cc
+control_in_stays Stall t e = cc
+control_in_stays Error t e = cc
+control_in_stays (Packet p) t e = cc
+
+control_out_stays : (r : Reply) (t : Transfer) → control_out_step r t ≢ More
+control_out_stays Ack t e = cc
+control_out_stays Nak t e = cc
+control_out_stays Stall t e = cc
+control_out_stays Error t e = cc
+control_out_stays (Packet p) t e = cc
+
 falls_by : (d : Direction) (max : ℕ) (r : Reply) (t : Transfer) → 0 < max → HasWindow t → step_by d max r t ≡ More → (moves_by d max r t).len - (moves_by d max r t).actual < t.len - t.actual
 falls_by In max r t m w e = input_falls max r t m w e
 falls_by Out max r t m w e = output_falls max r t m w e
+falls_by ControlIn max r t m w e = absurd (control_in_stays r t e)
+falls_by ControlOut max r t m w e = absurd (control_out_stays r t e)
 
 -- what is left to move falls where the transfer goes on
 pub falls : (shape : Shape) (r : Reply) (t : Transfer) → 0 < shape.max → HasWindow t → reply_step shape r t ≡ More → (reply_moves shape r t).len - (reply_moves shape r t).actual < t.len - t.actual
-falls shape r t m w e = falls_by (direction_of shape) shape.max r t m w e
+falls shape r t m w e = falls_by (direction_of shape t) shape.max r t m w e
 
 module _ (shape : Shape) (old now new : Transfer) (more : List Reply) (r : Reply) (step : Step) (a : Advances shape now new r step) (g : GoneOn shape old now more) where
   window : HasWindow new

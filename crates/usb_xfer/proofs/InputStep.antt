@@ -50,7 +50,7 @@ module _ (max len : ℕ) where
   in_room b Error e l = cc
   in_room b (Packet p) e l = let g = first_true (is_good max len b (Packet p)) (nat_lt (length p) max) (lengths b + length p == len) e in grind (arith, common_steps)
 
-module _ (shape : Shape) (t : Transfer) (d : direction_of shape ≡ In) where
+module _ (shape : Shape) (t : Transfer) (d : direction_of shape t ≡ In) where
   stays : (b : List Reply) (s : Reply) (xs : List Reply) → ending shape t b (s ∷ xs) ≡ None → input_stops shape.max t.len b s ≡ false
   stays b s xs e = subst (λ w. stops_by w shape.max t b s ≡ false) d (goes_on shape t b s xs e)
 
@@ -95,7 +95,7 @@ by_tests true false true c = refl
 by_tests true false false c = refl
 by_tests false s e c = refl
 
-module _ (shape : Shape) (start : Transfer) (replies : List Reply) (d : direction_of shape ≡ In) (w : HasWindow start) (e : IsOpen shape start replies) where
+module _ (shape : Shape) (start : Transfer) (replies : List Reply) (d : direction_of shape start ≡ In) (w : HasWindow start) (e : IsOpen shape start replies) where
   abbrev max : ℕ
   max = shape.max
 

@@ -5,6 +5,7 @@ use Rattle.std.proofs.Math.Seq.{take-length}
 use Rattle.usb_machine.specs.declared.layout.Shape.{Shape}
 use Rattle.usb_machine.specs.declared.transfer.Transfer.{Transfer}
 use Rattle.usb_machine.specs.Shapes.{HasWindow}
+use Rattle.usb_xfer.specs.Direction.{asked_at}
 use Rattle.usb_xfer.specs.Replies.{Reply, Question, acked_by}
 use Rattle.usb_xfer.specs.Moved.{moved, IsOpen, acked_bytes, question_of, reply_moves}
 use Rattle.usb_xfer.specs.On.{Gave, nothing, one_more}
@@ -31,7 +32,7 @@ module _ {D : Type 0} (replies : D → ℕ → Question → Reply → D → Type
       ap (reply_moves shape r) here ∙ ((last_step shape start (before ++ rs) r w (open_last rs r o)).transfer ∙ ap (moved shape start) (append_assoc before rs (r ∷ [])))
 
   -- a device that adds what it acknowledges to what it had received does so over a run of replies
-  pub received_more : (received : D → List ℕ) → ((m : D) (question : Question) (r : Reply) (e : D) → replies m shape.address question r e → received e ≡ received m ++ acked_by question r)
+  pub received_more : (received : D → List ℕ) → ((m : D) (question : Question) (r : Reply) (e : D) → replies m (asked_at shape) question r e → received e ≡ received m ++ acked_by question r)
       → (t : Transfer) (d : D) (rs : List Reply) (now : Transfer) (e : D) → Gave replies shape t d rs now e → t ≡ moved shape start before → IsOpenFor rs
       → (earlier : List ℕ) → received d ≡ earlier ++ acked_bytes shape start before → received e ≡ earlier ++ acked_bytes shape start (before ++ rs)
   received_more received adds t d _ _ _ nothing q o earlier had = had ∙ ap (λ l. earlier ++ acked_bytes shape start l) (sym (append-nil before))

@@ -5,13 +5,14 @@ use Rattle.usb_machine.specs.declared.transfer.Transfer.{Transfer}
 use Rattle.usb_machine.specs.Shapes.{HasWindow}
 use Rattle.usb_xfer.specs.declared.packet.Step.{Step}
 use Rattle.usb_xfer.specs.declared.packet.Step.TheVariants.{More}
+use Rattle.usb_xfer.specs.Direction.{asked_at}
 use Rattle.usb_xfer.specs.Replies.{Reply, Question}
 use Rattle.usb_xfer.specs.Moved.{moved, moved_state, IsOpen, IsWhole, question_of, reply_moves}
 
 -- the device, asked each time what the transfer asks next, gave these replies; then the transfer and the device are these
 pub data Gave {D : Type 0} (replies : D → ℕ → Question → Reply → D → Type 0) (shape : Shape) (t : Transfer) (d : D) : List Reply → Transfer → D → Type 0 where
   nothing : Gave replies shape t d [] t d
-  one_more : (rs : List Reply) (now : Transfer) (m : D) (r : Reply) (e : D) → Gave replies shape t d rs now m → replies m shape.address (question_of shape now) r e
+  one_more : (rs : List Reply) (now : Transfer) (m : D) (r : Reply) (e : D) → Gave replies shape t d rs now m → replies m (asked_at shape) (question_of shape now) r e
       → Gave replies shape t d (rs ++ r ∷ []) (reply_moves shape r now) e
 
 -- the transfer goes on through these replies

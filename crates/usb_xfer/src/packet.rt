@@ -1,12 +1,14 @@
-ghost use Rattle.std.specs.Prelude.{ℕ, ◌≡◌, ◌+◌, ◌≤◌, ◌<◌, ◌++◌, length, List, take, drop, slice_range};
+ghost use Rattle.std.specs.Prelude.{ℕ, false, ◌≡◌, ◌+◌, ◌≤◌, ◌<◌, ◌++◌, length, List, take, drop, slice_range};
 ghost use Rattle.usb_machine.specs.Shapes.{HasWindow};
 ghost use Rattle.usb_xfer.specs.Replies.{Reply, Question, Fetch, Send, in_heard, out_heard};
 ghost use Rattle.usb_xfer.specs.Input.{filled, input_moves, input_step};
 ghost use Rattle.usb_xfer.specs.Output.{size_of_next, next_packet, output_moves, output_step};
+ghost use Rattle.usb_xfer.specs.Direction.{is_control, asked_at};
 ghost use Rattle.usb_xfer.specs.Moved.{question_of, Advances};
 
+use crate::control::move_control;
 use crate::device::{Device, InReply, OutReply};
-use crate::direction::is_in;
+use crate::direction::{is_control, is_in};
 use usb_machine::{Shape, Transfer};
 use usb_types::{Code, Errno};
 
@@ -94,14 +96,28 @@ fn move_out<D: Device>(t: &mut Transfer, shape: &Shape, device: &mut D) -> Step
     }
 }
 
-/// Moves one packet. What it leaves and answers is what all the transfer's replies together do.
-pub fn advance<D: Device>(t: &mut Transfer, shape: &Shape, device: &mut D) -> Step
-    requires { HasWindow t.old }
-    ensures { (r : Reply) × (D.replies device.old shape.now.address (question_of shape.now t.old) r device.new) × Advances shape.now t.old t.new r result }
+// Moves one packet of an IN or an OUT endpoint.
+fn move_packet<D: Device>(t: &mut Transfer, shape: &Shape, device: &mut D) -> Step
+    requires window { HasWindow t.old }
+    requires kind { is_control shape.now.kind ≡ false }
+    ensures { (r : Reply) × (D.replies device.old (asked_at shape.now) (question_of shape.now t.old) r device.new) × Advances shape.now t.old t.new r result }
 {
     if is_in(shape.address) {
         move_in(t, shape, device)
     } else {
         move_out(t, shape, device)
+    }
+}
+
+/// Moves one packet, or one whole control transfer. What it leaves and answers is what all the transfer's replies together
+/// do.
+pub fn advance<D: Device>(t: &mut Transfer, shape: &Shape, device: &mut D) -> Step
+    requires { HasWindow t.old }
+    ensures { (r : Reply) × (D.replies device.old (asked_at shape.now) (question_of shape.now t.old) r device.new) × Advances shape.now t.old t.new r result }
+{
+    if is_control(shape.kind) {
+        move_control(t, shape, device)
+    } else {
+        move_packet(t, shape, device)
     }
 }
