@@ -1,6 +1,8 @@
 //! Tests of the program and of the crates below it.
 mod bad_scenes;
 mod calling;
+mod descriptors;
+mod enumeration;
 mod limits;
 mod lines;
 mod machine;

@@ -26,12 +26,17 @@ fn good_lines(rt: HostRuntime) -> Result<(), Fail> {
         "ep 81 iso 999999999 0 # too large is another cause",
         "answer 81 p: 2*p:0A0b 4096*nak stall error p:fill:1024:00",
         "answer 01 ack 1*ack nak stall error",
+        "answer 00 ack p: 2*p:0A0b nak stall error",
         "urb a d 81",
         "urb a d 8F short again 3 len 20 len 20",
+        "urb a d 00 len 4",
         "thread t_1",
         "submit a",
         "submit a -",
         "submit kbd.0.in 00 fill:16384:ff -",
+        "submit a setup:8006000100000800",
+        "submit a setup:21fF0002000001aB -",
+        "submit a setup:0009010000000000 00 fill:2:11",
         "unlink kbd.007.ctl",
         "kill a",
         "poison a",
@@ -58,7 +63,7 @@ fn bad_lines(rt: HostRuntime) -> Result<(), Fail> {
         "ep 81 ctrl 64 0",
         "ep 81 bulk 1234567890 0",
         "answer 81",
-        "answer 00 nak",
+        "answer 00",
         "answer 81 ack",
         "answer 01 p:00",
         "answer 81 0*nak",
@@ -69,13 +74,17 @@ fn bad_lines(rt: HostRuntime) -> Result<(), Fail> {
         "answer 81 p:0",
         "answer 81 p:fill:0:00",
         "answer 81 p:fill:1025:00",
-        "urb a d 00",
+        "urb a d 0",
         "urb a d 81 len",
         "urb a d 81 long 3",
         "submit a 0",
         "submit a fill:16385:00",
         "submit a fill:1:0",
-        "submit a setup:8006000100000800",
+        "submit a setup:",
+        "submit a setup:800600010000080",
+        "submit a setup:80060001000008000",
+        "submit a 00 setup:8006000100000800",
+        "submit a setup:8006000100000800 setup:8006000100000800",
         "submit kbd..in",
         "submit kbd.0.out",
         "submit a.b",
@@ -131,7 +140,7 @@ fn options_stand_in_their_order(rt: HostRuntime) -> Result<(), Fail> {
 
 #[test]
 fn data_is_joined(rt: HostRuntime) -> Result<(), Fail> {
-    let Some(Statement::Submit { urb, bytes }) = said(
+    let Some(Statement::Submit { urb, setup, bytes }) = said(
         rt.alloc(),
         "submit kbd.12.write 01 - fill:2:a5",
     )?
@@ -148,6 +157,27 @@ fn data_is_joined(rt: HostRuntime) -> Result<(), Fail> {
             }
         )
     );
+    assert!(rt; setup.is_none());
     assert!(rt; matches!(&bytes, Some(bytes) if bytes.bytes() == [1, 0xA5, 0xA5].as_slice()));
+    Ok(())
+}
+
+#[test]
+fn a_setup_packet_comes_first(rt: HostRuntime) -> Result<(), Fail> {
+    let Some(Statement::Submit { setup, bytes, .. }) = said(
+        rt.alloc(),
+        "submit a setup:8006000102000aFf -",
+    )?
+    else {
+        return Err("no submit line".into());
+    };
+    let Some(setup) = setup else {
+        return Err("no setup packet".into());
+    };
+    assert_eq!(rt;
+        setup.as_slice(),
+        [0x80, 0x06, 0x00, 0x01, 0x02, 0x00, 0x0A, 0xFF].as_slice()
+    );
+    assert!(rt; matches!(&bytes, Some(bytes) if bytes.bytes().is_empty()));
     Ok(())
 }

@@ -59,6 +59,36 @@ fn a_scene(rt: HostRuntime) -> Result<(), Fail> {
 }
 
 #[test]
+fn a_scene_of_control_transfers(rt: HostRuntime) -> Result<(), Fail> {
+    let text =
+        "scene 1\ndevice d raw\nanswer 00 p:AABB ack\nurb c d 00 len 4\nthread t\nsubmit c setup:8006000100000400\nserve\nsubmit c setup:0009010000000000 -";
+    let scene = read(rt.alloc(), text)?;
+    let (devices, urbs, threads) = (
+        scene.devices.items(),
+        scene.urbs.items(),
+        scene.threads.items(),
+    );
+    assert_eq!(rt; devices.len(), 1);
+    let answers = devices[0].script.answers.items();
+    assert_eq!(rt; answers.len(), 1);
+    assert_eq!(rt;
+        (answers[0].address, answers[0].items.items().len()),
+        (0, 2)
+    );
+    assert_eq!(rt; urbs.len(), 1);
+    assert_eq!(rt; (urbs[0].address, urbs[0].len), (0, 4));
+    assert_eq!(rt; threads.len(), 1);
+    let calls = threads[0].calls.items();
+    assert_eq!(rt; calls.len(), 3);
+    assert_eq!(rt; calls[0].setup, Some([0x80, 6, 0, 1, 0, 0, 4, 0]));
+    assert!(rt; calls[0].bytes.is_none());
+    assert_eq!(rt; calls[1].setup, None);
+    assert_eq!(rt; calls[2].setup, Some([0, 9, 1, 0, 0, 0, 0, 0]));
+    assert!(rt; calls[2].bytes.is_some());
+    Ok(())
+}
+
+#[test]
 fn bad_lines(rt: HostRuntime) -> Result<(), Fail> {
     let faults = [
         ("", 1, Cause::Header),

@@ -73,6 +73,25 @@ fn a_reply_in_the_middle_ends_or_delays_a_transfer(rt: HostRuntime) -> Result<()
 }
 
 #[test]
+fn control_transfers_need_a_setup_packet_that_fits(rt: HostRuntime) -> Result<(), Fail> {
+    let rows = [
+        (
+            "scene 1\ndevice d raw\nep 82 int 8 0\nep 83 bulk 0 0\nurb c d 00 len 17\nurb i d 82 len 8\nurb z d 83 len 8\nthread t\nsubmit c setup:8006000100001200\nsubmit c\nsubmit i\nsubmit z\n",
+            "thread t\n9 submit c -EBADR\n10 submit c -ENOEXEC\n11 submit i -EINVAL\n12 submit z -EMSGSIZE\n",
+        ),
+        (
+            "scene 1\ndevice d raw\nanswer 00 p:AABB ack\nurb c d 00 len 4\nthread t\nsubmit c setup:8006000100000400\nserve\nsubmit c setup:0009010000000000\n",
+            "thread t\n6 submit c 0\n8 submit c -EBADR\ngiven\nc 0 2 rest AABB\n",
+        ),
+        (
+            "# Control transfers of endpoint 00: a setup packet says which way the data go, and how many bytes.\nscene 1\ndevice d raw\nanswer 00 p:1201000200000040 ack stall\nurb c d 00 len 8\nthread t\nsubmit c\nsubmit c setup:8006000100000400\nsubmit c setup:8006000100000800\nserve\nsubmit c setup:0009010000000000 -\nserve\nsubmit c setup:8006000300000800\nserve\nsubmit c setup:8006000300000800\nserve\n",
+            "thread t\n7 submit c -ENOEXEC\n8 submit c -EBADR\n9 submit c 0\n11 submit c 0\n13 submit c 0\n15 submit c 0\ngiven\nc 0 8 rest 1201000200000040\nc 0 0 rest -\nc -EPIPE 0 rest -\nc -EPIPE 0 rest -\n",
+        ),
+    ];
+    check_reports(&rt, "", "", Status::Done, "", &rows)
+}
+
+#[test]
 fn the_gallery_of_one_submit(rt: HostRuntime) -> Result<(), Fail> {
     let rows = [
         (
