@@ -75,11 +75,13 @@ byte_of-encode_upper b h =
     ap (λ (r : Result (List ℕ) FromHexError). option_and_then first_byte (result_ok r))
     (decode_sized-twice (encode_upper (b ∷ [])) 1 (length-encode_with upper_digits (b ∷ [])) ∙ decode_of-encode_upper (b ∷ []) (bytes_one b h))
 
+pub byte_of-hex_pair : (b : ℕ) → b < 256 → byte_of (hex_pair b) ≡ Some b
+byte_of-hex_pair b h = ap byte_of (hex_pair-encode_upper b) ∙ byte_of-encode_upper b h
+
 pub address_of-hex_pair : (a : ℕ) → is_address a ≡ true → address_of (hex_pair a) ≡ Some a
 address_of-hex_pair a valid =
     let small : a < 256 = omega (arith, address_range a valid) in
-    let read = ap byte_of (hex_pair-encode_upper a) ∙ byte_of-encode_upper a small in
-    ap (option_and_then (λ b. cond (is_address b) (Some b) None)) read ∙ ap (λ t. cond t (Some a) None) valid
+    ap (option_and_then (λ b. cond (is_address b) (Some b) None)) (byte_of-hex_pair a small) ∙ ap (λ t. cond t (Some a) None) valid
 
 pub at_most : (bytes : List ℕ) → AreBytes bytes → (i : ℕ) → get_or bytes i 0 < 256
 at_most [] h i = lit< tt

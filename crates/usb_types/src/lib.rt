@@ -25,4 +25,4 @@ pub use table_laws::{
     a_table_rises_and_its_names_differ, code_of_name_of, each_row_is_found, what_is_found_is_a_row,
 };
 pub use tables::{calls, classes, errnos, requests, usages};
-pub use urb::{Flag, Role, UrbId, Why};
+pub use urb::{Action, Flag, Role, UrbId, Why};

@@ -37,7 +37,7 @@ pub enum Flag {
 }
 
 /// What an URB of a driver is for.
-#[derive(Clone, Copy, Debug, PartialEq, Eq)]
+#[derive(Clone, Copy, Debug, PartialEq, Eq, Hash)]
 pub enum Role {
     In,
     Note,
@@ -45,4 +45,18 @@ pub enum Role {
     Read1,
     Write,
     Ctl,
+}
+
+/// What becomes of a driver's transfer when it has come back: it rests, it is submitted again with this window, or it
+/// rests and the driver asks a question of its own.
+#[derive(Clone, Copy, Debug, PartialEq, Eq)]
+pub enum Action {
+    Rest,
+    Again {
+        /// Where the window begins, in bytes.
+        from: u32,
+        /// The window's length in bytes.
+        len: u32,
+    },
+    Ask,
 }

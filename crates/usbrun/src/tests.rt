@@ -3,6 +3,7 @@ mod bad_scenes;
 mod calling;
 mod descriptors;
 mod enumeration;
+mod keyboards;
 mod limits;
 mod lines;
 mod machine;

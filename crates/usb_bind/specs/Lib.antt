@@ -1,0 +1,9 @@
+pub mod Matching
+pub mod Profile
+pub mod Interfaces
+pub mod Seen
+pub mod Needs
+pub mod Pool
+pub mod Board
+pub mod Probe
+pub mod Laws

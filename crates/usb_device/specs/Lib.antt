@@ -1,0 +1,11 @@
+pub mod Items
+pub mod Short
+pub mod Places
+pub mod Acks
+pub mod Rules
+pub mod Took
+pub mod Fresh
+pub mod Device
+pub mod Said
+pub mod Replied
+pub mod Laws

@@ -1,0 +1,14 @@
+-- What a scripted device does with a call.
+use Rattle.std.specs.Prelude.{ℕ, ◌≡◌, List, [], ◌∷◌, ◌++◌}
+use Rattle.usb_xfer.specs.Replies.{Reply, Question}
+use Rattle.usb_xfer.specs.declared.script.DeviceScript.{DeviceScript}
+use Rattle.usb_device.specs.declared.scripted.Scripted.{Scripted}
+use Rattle.usb_device.specs.Device.{Call, reply_to, Stands}
+
+abbrev pub call_of : ℕ → Question → Call
+call_of address question = record { address = address; question = question }
+
+-- whatever script it has and whatever it heard, it gives the reply that is due, and then has heard this call too
+pub record Replied (old : Scripted) (address : ℕ) (question : Question) (r : Reply) (new : Scripted) : Type 0 where
+  pub due : (script : DeviceScript) (calls : List Call) → Stands old script calls → r ≡ reply_to script calls (call_of address question)
+  pub heard : (script : DeviceScript) (calls : List Call) → Stands old script calls → Stands new script (calls ++ call_of address question ∷ [])

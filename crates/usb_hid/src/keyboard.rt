@@ -1,0 +1,146 @@
+ghost use Rattle.std.specs.Prelude.{◌≡◌, ◌++◌, ◌∷◌, [], ◌<◌, ◌^◌, List, length, OnOk, OnErr, IfOk};
+ghost use Rattle.usb_hid.specs.Keyboard.{action_of};
+
+use crate::changes::{is_roll_over, push_codes, push_modifiers};
+use crate::event::Event;
+use std::alloc::{AllocError, Global};
+use std::marker::Model;
+use usb_machine::Transfer;
+use usb_types::{Action, Code, Errno, Memory, Role};
+
+/// The core of a boot keyboard's driver. It keeps what stands of the reports, and all events so far.
+#[derive(Drop)]
+pub struct Keyboard {
+    modifiers: u8,
+    codes: [u8; 6],
+    events: Vec<Event>,
+}
+
+impl Model for Keyboard {
+    ghost use Rattle.usb_hid.specs.Keyboard.{Kept};
+
+    ghost Value = { Kept };
+
+    ghost view = { λ k. record { modifiers = k.modifiers; codes = k.codes; events = k.events.items } };
+}
+
+impl Keyboard {
+    ghost use Rattle.usb_machine.specs.Shapes.{HasWindow};
+    ghost use Rattle.usb_hid.specs.Keys.{Completion, completion};
+    ghost use Rattle.usb_hid.specs.Changes.{modifier_changes, code_changes, Grown};
+    ghost use Rattle.usb_hid.specs.Keyboard.{Kept, Notes, Stands, IsOfKeyboard};
+    ghost use Rattle.usb_types.specs.declared.urb.Role.TheVariants.{In, Ctl};
+    ghost use Rattle.usb_types.specs.declared.errno.Code.TheVariants.{Zero};
+
+    /// The core of a keyboard that has said nothing: no key is down.
+    pub fn new(alloc: Global) -> Keyboard
+        ensures { Stands result [] }
+    {
+        Keyboard {
+            modifiers: 0,
+            codes: [0; 6],
+            events: Vec::new(alloc),
+        }
+    }
+
+    /// What happened so far.
+    pub fn events(&self) -> &[Event]
+        ensures { result.now ≡ self.now.events }
+    {
+        &self.events
+    }
+
+    /// Takes note of an URB that came back, its read or a control transfer, and says what becomes of its transfer.
+    /// An `Err` changes nothing.
+    pub fn complete(&mut self, role: Role, code: Code, t: &Transfer) -> Result<Action, Memory>
+        requires role { IsOfKeyboard role }
+        requires window { HasWindow t.now }
+        ensures action { IfOk result (λ action. action ≡ action_of role code t.now) }
+        ensures stands { (done : List Completion) → Stands self.old done → OnOk result (Stands self.new (done ++ completion role code t.now ∷ [])) }
+        ensures memory { OnErr result (self.new ≡ self.old) }
+    {
+        let from = t.from as usize;
+        let moved = &t.buf.bytes()[from..from + t.actual as usize];
+        self.note(role, code, moved)?;
+        Ok(action(role, code, t))
+    }
+
+    /// Takes note of an URB that came back, by the bytes that were moved. An `Err` changes nothing.
+    fn note(&mut self, role: Role, code: Code, moved: &[u8]) -> Result<(), Memory>
+        ensures ok { OnOk result (Notes self.old self.new record { role = role; status = code; moved = moved.now }) }
+        ensures err { OnErr result (self.new ≡ self.old) }
+    {
+        match (role, code) {
+            (Role::In, Code::Zero) => self.read(moved),
+            (Role::Ctl, Code::Zero) => self.light(moved),
+            _ => Ok(()),
+        }
+    }
+
+    /// Takes note of a report, where the bytes begin with one. An `Err` changes nothing.
+    fn read(&mut self, moved: &[u8]) -> Result<(), Memory>
+        ensures ok { OnOk result (Notes self.old self.new record { role = In; status = Zero; moved = moved.now }) }
+        ensures err { OnErr result (self.new ≡ self.old) }
+    {
+        if moved.len() < 8 {
+            return Ok(());
+        }
+        let codes = &moved[2..8];
+        self.tell(moved[0], codes)?;
+        self.modifiers = moved[0];
+        if !is_roll_over(codes) {
+            self.codes.copy_from_slice(codes);
+        }
+        Ok(())
+    }
+
+    /// Adds what changes. An `Err` adds nothing.
+    fn tell(&mut self, modifiers: u8, codes: &[u8]) -> Result<(), Memory>
+        ensures ok { OnOk result (self.new ≡ record self.old { events = self.old.events ++ modifier_changes self.old.modifiers modifiers ++ code_changes self.old.codes codes.now }) }
+        ensures err { OnErr result (self.new ≡ self.old) }
+    {
+        let told = self.events.len();
+        if self.push_changes(modifiers, codes).is_err() {
+            self.events.truncate(told);
+            return Err(Memory);
+        }
+        Ok(())
+    }
+
+    /// Adds what changes. An `Err` may leave some of it.
+    fn push_changes(&mut self, modifiers: u8, codes: &[u8]) -> Result<(), AllocError>
+        ensures ok { OnOk result (self.new ≡ record self.old { events = self.old.events ++ modifier_changes self.old.modifiers modifiers ++ code_changes self.old.codes codes.now }) }
+        ensures err { OnErr result (self.new ≡ record self.old { events = self.new.events }) }
+        ensures grown { OnErr result (Grown self.old.events self.new.events) }
+    {
+        push_modifiers(&mut self.events, self.modifiers, modifiers)?;
+        push_codes(&mut self.events, &self.codes, codes)
+    }
+
+    /// Takes note of the lights that were sent, where any were. An `Err` changes nothing.
+    fn light(&mut self, moved: &[u8]) -> Result<(), Memory>
+        ensures ok { OnOk result (Notes self.old self.new record { role = Ctl; status = Zero; moved = moved.now }) }
+        ensures err { OnErr result (self.new ≡ self.old) }
+    {
+        let Some(lights) = moved.first() else {
+            return Ok(());
+        };
+        match self.events.push(Event::Led { lights: *lights }) {
+            Ok(()) => Ok(()),
+            Err(_) => Err(Memory),
+        }
+    }
+}
+
+fn action(role: Role, code: Code, t: &Transfer) -> Action
+    requires { length t.now.buf < 2 ^ 32 }
+    ensures { result ≡ action_of role code t.now }
+{
+    match (role, code) {
+        (Role::In, Code::Zero | Code::Fault(Errno::EPROTO | Errno::EOVERFLOW)) => Action::Again {
+            from: 0,
+            len: t.buf.bytes().len() as u32,
+        },
+        _ => Action::Rest,
+    }
+}

@@ -1,0 +1,365 @@
+//! What keyboards said, and the events of it, written by hand from HID 1.11 (appendices B, C and F).
+//!
+//! A word is an URB that came back. Bytes alone are a read that succeeded, and behind an errno one that failed; behind
+//! `led` they are lights that were sent, and behind `unled` lights that were not taken.
+ghost use Rattle.std.specs.Prelude.{IfOk};
+ghost use Rattle.usb_machine.specs.Shapes.{HasWindow};
+
+use std::alloc::Global;
+use std::process::Abort;
+use std::test::Fail;
+use usb_hid::{Event, Keyboard, led_setup};
+use usb_machine::Transfer;
+use usb_text::{cut, data_bytes, is_text, push_hex};
+use usb_types::{Action, Buf, Code, Errno, Memory, Role};
+
+/// A transfer that moved these bytes. Its window begins behind one byte of its buffer, and has room for one more.
+fn transfer(alloc: Global, moved: &[u8]) -> Result<Transfer, Fail>
+    ensures { IfOk result HasWindow }
+{
+    let mut buf = Buf::of(Vec::new(alloc));
+    buf.append(&[0xEE])?;
+    buf.append(moved)?;
+    buf.append(&[0xEE])?;
+    window(buf, moved.len())
+}
+
+/// A transfer whose window is the buffer without its first byte.
+fn window(buf: Buf, moved: usize) -> Result<Transfer, Fail>
+    ensures { IfOk result HasWindow }
+{
+    let (Ok(size), Ok(actual)) = (u32::try_from(buf.bytes().len()), u32::try_from(moved)) else {
+        return Err("more bytes than a buffer has".into());
+    };
+    if size <= actual {
+        return Err("fewer bytes than were moved".into());
+    }
+    Ok(Transfer {
+        setup: None,
+        buf,
+        from: 1,
+        len: size - 1,
+        short_not_ok: false,
+        actual,
+        number: 0,
+    })
+}
+
+fn errno(name: &[u8]) -> Result<Errno, Fail> {
+    let errnos = [
+        Errno::ENOENT,
+        Errno::EPIPE,
+        Errno::EPROTO,
+        Errno::EOVERFLOW,
+        Errno::ECONNRESET,
+        Errno::ESHUTDOWN,
+        Errno::EREMOTEIO,
+    ];
+    let errno = errnos.iter().find(|errno| is_text(name, errno.name()));
+    Ok(*errno.ok_or("no errno of this name")?)
+}
+
+/// What came back by a word in front of its bytes.
+fn kind(name: &[u8]) -> Result<(bool, Code), Fail> {
+    if is_text(name, "led") {
+        Ok((true, Code::Zero))
+    } else if is_text(name, "unled") {
+        Ok((true, Code::Fault(Errno::EPIPE)))
+    } else {
+        Ok((false, Code::Fault(errno(name)?)))
+    }
+}
+
+/// Gives a keyboard what a word says.
+fn complete(alloc: Global, keyboard: &mut Keyboard, word: &[u8]) -> Result<Action, Fail> {
+    let (lights, code, digits) = match cut(word, b':') {
+        Some((name, digits)) => {
+            let (lights, code) = kind(name)?;
+            (lights, code, digits)
+        }
+        None => (false, Code::Zero, word),
+    };
+    let moved = data_bytes(alloc, digits)?.ok_or("no bytes")?;
+    let t = transfer(alloc, moved.bytes())?;
+    let role = if lights { Role::Ctl } else { Role::In };
+    Ok(keyboard.complete(role, code, &t)?)
+}
+
+fn push_event(text: &mut Buf, word: &str, byte: u8) -> Result<(), Memory> {
+    if !text.bytes().is_empty() {
+        text.append(b" ")?;
+    }
+    text.append(word.as_bytes())?;
+    text.append(b" ")?;
+    push_hex(text, &[byte])
+}
+
+/// The events as a report tells them, on one line and without names.
+fn text_of(alloc: Global, events: &[Event]) -> Result<Buf, Memory> {
+    let mut text = Buf::of(Vec::new(alloc));
+    for event in events {
+        match event {
+            Event::Down { code } => push_event(&mut text, "down", *code)?,
+            Event::Up { code } => push_event(&mut text, "up", *code)?,
+            Event::Led { lights } => push_event(&mut text, "led", *lights)?,
+        }
+    }
+    Ok(text)
+}
+
+/// Each row of words has these events.
+fn check_events<R: Abort + AllocGlobal>(rt: &R, rows: &[(&str, &str)]) -> Result<(), Fail> {
+    let alloc = rt.alloc();
+    for (words, events) in rows {
+        let mut keyboard = Keyboard::new(alloc);
+        for word in words.split_ascii_whitespace() {
+            complete(alloc, &mut keyboard, word.as_bytes())?;
+        }
+        let text = text_of(alloc, keyboard.events())?;
+        assert_eq!(rt; text.bytes(), events.as_bytes(), "{words}");
+    }
+    Ok(())
+}
+
+#[test]
+fn a_key_is_down_until_it_is_up(rt: HostRuntime) -> Result<(), Fail> {
+    let rows = [
+        ("", ""),
+        ("0000000000000000", ""),
+        ("0000040000000000", "down 04"),
+        ("0000040000000000 0000000000000000", "down 04 up 04"),
+        ("0000040000000000 0000040000000000", "down 04"),
+        (
+            "0000040000000000 0000000000000000 0000040000000000",
+            "down 04 up 04 down 04",
+        ),
+        ("0000040000000000 0000050000000000", "down 04 up 04 down 05"),
+        ("0000040000000000 0000000000000004", "down 04"),
+        ("0000FF0000000000 0000650000000000", "down FF up FF down 65"),
+    ];
+    check_events(&rt, &rows)
+}
+
+#[test]
+fn releases_keep_the_old_order_and_presses_the_new(rt: HostRuntime) -> Result<(), Fail> {
+    let rows = [
+        (
+            "0000040000000000 0000040500000000 0000050000000000 0000000000000000",
+            "down 04 down 05 up 04 up 05",
+        ),
+        (
+            "0000040506070809 0000000000000000",
+            "down 04 down 05 down 06 down 07 down 08 down 09 up 04 up 05 up 06 up 07 up 08 up 09",
+        ),
+        (
+            "0000090807060504",
+            "down 09 down 08 down 07 down 06 down 05 down 04",
+        ),
+        (
+            "0000060405000000 0000050000000000",
+            "down 06 down 04 down 05 up 06 up 04",
+        ),
+        (
+            "0000040000000000 0000050600000000",
+            "down 04 up 04 down 05 down 06",
+        ),
+        (
+            "0000070605000000 0000090608000000",
+            "down 07 down 06 down 05 up 07 up 05 down 09 down 08",
+        ),
+        ("0000000400050000", "down 04 down 05"),
+        (
+            "0000040506000000 0000060504000000",
+            "down 04 down 05 down 06",
+        ),
+    ];
+    check_events(&rt, &rows)
+}
+
+#[test]
+fn modifiers_come_before_the_keys(rt: HostRuntime) -> Result<(), Fail> {
+    let rows = [
+        ("0100000000000000", "down E0"),
+        (
+            "FF00000000000000 0000000000000000",
+            "down E0 down E1 down E2 down E3 down E4 down E5 down E6 down E7 up E0 up E1 up E2 up E3 up E4 up E5 up E6 up E7",
+        ),
+        ("0200000000000000 2000000000000000", "down E1 up E1 down E5"),
+        ("2000000000000000 0200000000000000", "down E5 down E1 up E5"),
+        (
+            "AA00000000000000 5500000000000000",
+            "down E1 down E3 down E5 down E7 down E0 up E1 down E2 up E3 down E4 up E5 down E6 up E7",
+        ),
+        (
+            "0200000000000000 0200040000000000 0200000000000000 0000000000000000",
+            "down E1 down 04 up 04 up E1",
+        ),
+        ("0200040000000000", "down E1 down 04"),
+        (
+            "0200040000000000 0000000000000000",
+            "down E1 down 04 up E1 up 04",
+        ),
+        (
+            "8100040000000000 8000050000000000",
+            "down E0 down E7 down 04 up E0 up 04 down 05",
+        ),
+        // No boot keyboard has a modifier's usage among its codes. Here it is told as any code is.
+        ("0200E10000000000", "down E1 down E1"),
+    ];
+    check_events(&rt, &rows)
+}
+
+#[test]
+fn the_reserved_byte_and_codes_up_to_three_are_no_keys(rt: HostRuntime) -> Result<(), Fail> {
+    let rows = [
+        ("00FF000000000000", ""),
+        ("0004050000000000 0005050000000000", "down 05"),
+        ("0000010203000000", ""),
+        ("0000040100000000", "down 04"),
+        ("0000030400000000 0000030000000000", "down 04 up 04"),
+        ("0000040000000000 0000020202020202", "down 04 up 04"),
+        ("0000040000000000 0000030303030303", "down 04 up 04"),
+    ];
+    check_events(&rt, &rows)
+}
+
+#[test]
+fn a_roll_over_changes_modifiers_alone(rt: HostRuntime) -> Result<(), Fail> {
+    let rows = [
+        ("0000010101010101", ""),
+        ("0000010101010101 0000040000000000", "down 04"),
+        ("0000040000000000 0000010101010101", "down 04"),
+        (
+            "0000040000000000 0000010101010101 0000040000000000",
+            "down 04",
+        ),
+        (
+            "0000040000000000 0000010101010101 0000000000000000",
+            "down 04 up 04",
+        ),
+        (
+            "0000040000000000 0000010101010101 0200040000000000",
+            "down 04 down E1",
+        ),
+        (
+            "0000040000000000 0200010101010101 0000010101010101 0000050000000000",
+            "down 04 down E1 up E1 up 04 down 05",
+        ),
+        (
+            "0000040506070809 0000010101010101 000004050607080A",
+            "down 04 down 05 down 06 down 07 down 08 down 09 up 09 down 0A",
+        ),
+        ("0000040000000000 00FF010101010101", "down 04"),
+        // Five codes 01 are no roll-over.
+        ("0000040000000000 0000010101010104", "down 04"),
+        ("0000040000000000 0000010101010100", "down 04 up 04"),
+    ];
+    check_events(&rt, &rows)
+}
+
+#[test]
+fn a_code_that_stands_twice_counts_at_its_first_place(rt: HostRuntime) -> Result<(), Fail> {
+    let rows = [
+        ("0000040400000000", "down 04"),
+        ("0000040404040404 0000000000000000", "down 04 up 04"),
+        (
+            "0000050405000000 0000000000000000",
+            "down 05 down 04 up 05 up 04",
+        ),
+        ("0000040400000000 0000040000000000", "down 04"),
+        ("0000040504000000 0000050000000000", "down 04 down 05 up 04"),
+        ("0000040000000000 0000050405050000", "down 04 down 05"),
+    ];
+    check_events(&rt, &rows)
+}
+
+#[test]
+fn fewer_than_eight_bytes_are_no_report(rt: HostRuntime) -> Result<(), Fail> {
+    let rows = [
+        ("-", ""),
+        ("00000400000000", ""),
+        ("0000040000000000 -", "down 04"),
+        ("0000040000000000 00000000000000", "down 04"),
+        ("0000040000000000 02", "down 04"),
+        (
+            "0000040000000000 00000500000000 0000050000000000",
+            "down 04 up 04 down 05",
+        ),
+        // Of more bytes the first eight are the report.
+        ("000004000000000005", "down 04"),
+        ("00000400000000000000050000000000", "down 04"),
+    ];
+    check_events(&rt, &rows)
+}
+
+#[test]
+fn a_read_that_failed_says_nothing(rt: HostRuntime) -> Result<(), Fail> {
+    let rows = [
+        ("ENOENT:0000040000000000", ""),
+        ("0000040000000000 EPROTO:0000000000000000", "down 04"),
+        (
+            "0000040000000000 EOVERFLOW:0000050000000000 0000000000000000",
+            "down 04 up 04",
+        ),
+        ("EPIPE:0200040000000000 0000050000000000", "down 05"),
+        (
+            "ECONNRESET:0000040000000000 ESHUTDOWN:0000050000000000 EREMOTEIO:0000060000000000",
+            "",
+        ),
+    ];
+    check_events(&rt, &rows)
+}
+
+#[test]
+fn lights_are_the_first_byte_that_was_sent(rt: HostRuntime) -> Result<(), Fail> {
+    let rows = [
+        ("led:02", "led 02"),
+        ("led:02 led:00", "led 02 led 00"),
+        ("led:0703", "led 07"),
+        ("led:-", ""),
+        ("unled:02", ""),
+        ("led:0000040000000000", "led 00"),
+        (
+            "0000390000000000 led:02 0000000000000000",
+            "down 39 led 02 up 39",
+        ),
+    ];
+    check_events(&rt, &rows)
+}
+
+#[test]
+fn a_read_goes_on_unless_its_fault_stays(rt: HostRuntime) -> Result<(), Fail> {
+    let alloc = rt.alloc();
+    let again = Action::Again { from: 0, len: 10 };
+    let rows: [(&str, Action); 10] = [
+        ("0000040000000000", again),
+        ("EPROTO:0000040000000000", again),
+        ("EOVERFLOW:0000040000000000", again),
+        ("-", Action::Again { from: 0, len: 2 }),
+        ("ENOENT:0000040000000000", Action::Rest),
+        ("EPIPE:0000040000000000", Action::Rest),
+        ("ECONNRESET:-", Action::Rest),
+        ("ESHUTDOWN:-", Action::Rest),
+        ("led:02", Action::Rest),
+        ("unled:02", Action::Rest),
+    ];
+    for (word, action) in &rows {
+        let mut keyboard = Keyboard::new(alloc);
+        let got = complete(alloc, &mut keyboard, word.as_bytes())?;
+        assert_eq!(rt; got, *action, "{word}");
+    }
+    Ok(())
+}
+
+#[test]
+fn lights_are_asked_by_a_setup_packet(rt: HostRuntime) -> Result<(), Fail> {
+    assert_eq!(rt;
+        led_setup(0),
+        [0x21, 0x09, 0x00, 0x02, 0x00, 0x00, 0x01, 0x00]
+    );
+    assert_eq!(rt;
+        led_setup(3),
+        [0x21, 0x09, 0x00, 0x02, 0x03, 0x00, 0x01, 0x00]
+    );
+    Ok(())
+}
