@@ -21,7 +21,8 @@ use Rattle.usb_line.specs.declared.made.Deed.{Deed}
 use Rattle.usb_line.specs.declared.made.Deed.TheVariants as deed
 use Rattle.usb_line.specs.declared.made.CallAnswer.{CallAnswer}
 use Rattle.usb_line.specs.declared.made.CallAnswer.TheVariants as told
-use Rattle.usb_line.specs.Prepared.{machine_of, ends_of, shape_at, pass_of, main_pass, deed_of}
+use Rattle.usb_prepare.specs.Ends.{ends_of, shape_at}
+use Rattle.usb_line.specs.Prepared.{machine_of, pass_of, main_pass, deed_of}
 use Rattle.usb_line.specs.Run.{Doing, urbs_of, call_entries, seen_quiet}
 use Rattle.std.specs.List.{flat_map}
 use Rattle.usb_line.specs.Line.{Progress, adds, with_takes, had_after, GoesTo, IsServed, IsMarked, round_of, given_back, replies_had, waits, Passes, over, stops, Gives, unlinked, ended, IsIdle, GivesBack, none, one, woken, is_quiet, StaysLoud, begins, goes_on, WaitsFor, already, turns, ClaimsEach, killing, with_doing, doing, shut_marks, shutting, answer_now, Makes, at_once, served, killed, poisoned, shut_down, IsLine, start, call, Closes, IsLineRun}
@@ -217,7 +218,7 @@ module _ (s : Scene) (f : Progress) (i : ℕ) (c : Call) where
   abbrev p : ℕ
   p = pass_of s i
 
-  not_now : (dd : Deed) (a : CallAnswer) → deed_of c ≡ dd → answer_now s f c (deed_of c) ≡ Some a → answer_now s f c dd ≡ Some a
+  not_now : (dd : Deed) (a : CallAnswer) → deed_of s c ≡ dd → answer_now s f c (deed_of s c) ≡ Some a → answer_now s f c dd ≡ Some a
   not_now dd a is e = ap (answer_now s f c) (sym is) ∙ e
 
   same_kill : (u v : ℕ) → deed.Kill u ≡ deed.Kill v → u ≡ v

@@ -1,5 +1,5 @@
 -- What a giveback leaves of what the run's object shows.
-use Rattle.std.proofs.Common.{ℕ, ◌≡◌, ◌≢◌, ◌+◌, ◌-◌, ◌*◌, Bool, true, false, not, ◌&&◌, cond, eqb, min, Option, Some, None, List, [], ◌∷◌, ◌++◌, length, take, drop, refl, sym, ap, ◌∙◌, subst, arith, append-nil, length-append, eq-eqb, ne_eqb}
+use Rattle.std.proofs.Common.{ℕ, ◌≡◌, ◌≢◌, ◌+◌, ◌-◌, ◌*◌, ◌<◌, Bool, true, false, not, ◌&&◌, cond, eqb, min, Option, Some, None, List, [], ◌∷◌, ◌++◌, length, take, drop, refl, sym, ap, ◌∙◌, subst, arith, append-nil, length-append, eq-eqb, ne_eqb}
 use Rattle.std.specs.Prelude.{slice_set}
 use Rattle.std.specs.List.{flat_map}
 use Rattle.std.proofs.lemmas.Grind.{common_steps, flat_map-append}
@@ -26,13 +26,13 @@ use Rattle.usb_line.specs.declared.run.UrbRow.{UrbRow}
 use Rattle.usb_line.specs.declared.run.EndRow.{EndRow}
 use Rattle.usb_line.specs.declared.run.Received.{Received}
 use Rattle.usb_line.specs.declared.run.LineRun.{LineRun}
-use Rattle.usb_line.specs.declared.script.EndScript.{EndScript}
-use Rattle.usb_line.specs.Prepared.{machine_of, home, shape_at, script_of, again_of}
+use Rattle.usb_prepare.specs.Ends.{shape_at}
+use Rattle.usb_prepare.specs.Layout.{home}
+use Rattle.usb_line.specs.Prepared.{machine_of, again_of}
 use Rattle.usb_line.specs.Run.{Giveback, moved_in, resent, times_back, rounds_at, replies_in, is_first}
 use Rattle.usb_line.specs.Line.{Progress, replies_used, replies_had, given_back}
-use Rattle.usb_line.specs.Scripted.{IsAfter}
 use Rattle.usb_line.specs.Given.{given_of, acked_at, sent_bytes, IsReceived}
-use Rattle.usb_line.specs.Shows.{HoldsTransfer, ShowsUrb, ShowsEnd, Shows}
+use Rattle.usb_line.specs.Shows.{HoldsTransfer, ShowsUrb, ShowsEnd, Shows, ShowsDevices}
 use Rattle.usb_line.specs.Back.{Adds, left_by, row_back}
 use Rattle.usb_line.proofs.Givebacks.{handled_state, resubmits, giveback_state, giveback_other, giveback_pending, giveback_sent}
 use Rattle.usb_line.proofs.Calm.{calm_giveback, linked_giveback}
@@ -128,6 +128,7 @@ module _ (s : Scene) (f : Progress) (r : Giveback) where
   holds_else v off (Some t) q = (
     ap (λ (t : UrbState). t.queued) (giveback_other s h r v off) ∙ q.0,
     record {
+      own = q.1.own;
       start = q.1.start;
       sent = still_sent s f r v off ∙ q.1.sent;
       moving = q.1.moving ∙ ap (moved (shape_at s (home s v)) q.1.start) (sym (had_else v off));
@@ -147,12 +148,13 @@ module _ (s : Scene) (f : Progress) (r : Giveback) where
   own_state_queued : (o : Outcome) → r.outcome ≡ o → (b : Bool) → (handled_state o (moved_in s r).number (record (state_of h r.urb) { queued = false; mark = Clear })).queued ≡ b → (state_of k.history r.urb).queued ≡ b
   own_state_queued o is b q = ap (λ (t : UrbState). t.queued) (giveback_state s h r ∙ ap (λ o. handled_state o (moved_in s r).number (record (state_of h r.urb) { queued = false; mark = Clear })) is) ∙ q
 
-  own_holds : (o : Outcome) → r.outcome ≡ o → HoldsTransfer s k r.urb (left_by o (moved_in s r))
-  own_holds outcome.Rest is = own_state_queued outcome.Rest is false refl
-  own_holds (outcome.Again (Fault c)) is = own_state_queued (outcome.Again (Fault c)) is false refl
-  own_holds (outcome.Again Zero) is = (
+  own_holds : r.urb < length s.urbs → (o : Outcome) → r.outcome ≡ o → HoldsTransfer s k r.urb (left_by o (moved_in s r))
+  own_holds near outcome.Rest is = own_state_queued outcome.Rest is false refl
+  own_holds near (outcome.Again (Fault c)) is = own_state_queued (outcome.Again (Fault c)) is false refl
+  own_holds near (outcome.Again Zero) is = (
     own_state_queued (outcome.Again Zero) is true refl,
     record {
+      own = near;
       start = resent s r;
       sent = giveback_sent s h r r.urb ∙ (λ i. cond (eq-eqb r.urb r.urb refl i && resubmits (is i)) (Some (resent s r)) (sent_of h r.urb));
       moving = nothing_moved (shape_at s e) (resent s r) refl ∙ ap (moved (shape_at s e) (resent s r)) (sym had_own);
@@ -160,11 +162,11 @@ module _ (s : Scene) (f : Progress) (r : Giveback) where
     },
   )
 
-  pub urb_own : (row : UrbRow) (t : Transfer) (o : Outcome) → row.home ≡ e → row.again ≡ again_of s r.urb - times_back r.urb f.rounds → t ≡ moved_in s r → o ≡ r.outcome → ShowsUrb s k r.urb (row_back o t row)
-  urb_own row t o at more is did = record {
+  pub urb_own : r.urb < length s.urbs → (row : UrbRow) (t : Transfer) (o : Outcome) → row.home ≡ e → row.again ≡ again_of s r.urb - times_back r.urb f.rounds → t ≡ moved_in s r → o ≡ r.outcome → ShowsUrb s k r.urb (row_back o t row)
+  urb_own near row t o at more is did = record {
     at = at;
     more = let same = times_push r.urb f.rounds r in let one = ap (λ b. cond {A = ℕ} b 1 0) (eq-eqb r.urb r.urb refl) in omega arith;
-    holds = subst (λ (x : Outcome). HoldsTransfer s k r.urb (left_by x t)) (sym did) (subst (λ (x : Transfer). HoldsTransfer s k r.urb (left_by r.outcome x)) (sym is) (own_holds r.outcome refl));
+    holds = subst (λ (x : Outcome). HoldsTransfer s k r.urb (left_by x t)) (sym did) (subst (λ (x : Transfer). HoldsTransfer s k r.urb (left_by r.outcome x)) (sym is) (own_holds near r.outcome refl));
   }
 
   -- the other endpoints
@@ -174,8 +176,6 @@ module _ (s : Scene) (f : Progress) (r : Giveback) where
   pub end_else : (d : ℕ) (end : EndRow) → e ≢ d → ShowsEnd s f d end → ShowsEnd s k d end
   end_else d end off o = record {
     is = o.is;
-    address = o.address;
-    after = subst (IsAfter end.script (script_of s d)) (sym (λ i. length (replies_in (rounds_else d off i)) + length (left_else s f r d off i))) o.after;
     sleeps = o.sleeps;
     acked = subst (λ l. IsReceived l end.received) (ap (λ rounds. flat_map (λ r. sent_bytes (shape_at s d) (moved_in s r)) rounds) (sym (rounds_else d off))) o.acked;
   }
@@ -194,26 +194,29 @@ module _ (s : Scene) (f : Progress) (r : Giveback) where
   acked_own = ap (λ rounds. flat_map (λ r. sent_bytes (shape_at s e) (moved_in s r)) rounds) rounds_own
       ∙ (flat_map-append (λ r. sent_bytes (shape_at s e) (moved_in s r)) (rounds_at s e f.rounds) (r ∷ []) ∙ ap (λ l. acked_at s e f.rounds ++ l) (append-nil (sent_bytes (shape_at s e) (moved_in s r))))
 
-  pub end_own : (end : EndRow) (t : Transfer) (received : Received) → ShowsEnd s f e end → (script : EndScript) → script.address ≡ end.shape.address → IsAfter script (script_of s e) (replies_used s k e)
-      → t ≡ moved_in s r → Adds end.received received (sent_bytes end.shape t) → ShowsEnd s k e record end { script = script; received = received }
-  end_own end t received o script address after is adds = record {
+  -- the other endpoints have given as many replies
+  pub used_else : (d : ℕ) → e ≢ d → replies_used s k d ≡ replies_used s f d
+  used_else d off = (λ i. length (replies_in (rounds_else d off i)) + length (left_else s f r d off i))
+
+  pub end_own : (end : EndRow) (t : Transfer) (received : Received) → ShowsEnd s f e end
+      → t ≡ moved_in s r → Adds end.received received (sent_bytes end.shape t) → ShowsEnd s k e record end { received = received }
+  end_own end t received o is adds = record {
     is = o.is;
-    address = address;
-    after = after;
     sleeps = o.sleeps;
     acked = subst (λ l. IsReceived l received) (sym acked_own)
         (subst (λ l. IsReceived (acked_at s e f.rounds ++ l) received) (λ i. sent_bytes (o.is i) (is i)) (adds (acked_at s e f.rounds) o.acked));
   }
 
   -- so the object shows the progress with the giveback
-  pub shows_back : (run new : LineRun) → Shows s f run → Stands new.plain (machine_of s) k.history
+  pub shows_back : (run new : LineRun) → Shows s f run → Stands new.plain (machine_of s) k.history → ShowsDevices s k new.devices.items
       → (row : UrbRow) → new.urbs.items ≡ slice_set run.urbs.items r.urb row → ShowsUrb s k r.urb row
       → (end : EndRow) → new.ends.items ≡ slice_set run.ends.items e end → ShowsEnd s k e end
       → new.given ≡ run.given ++ given_of s r ∷ [] → new.down ≡ run.down → Shows s k new
-  shows_back run new old stands row rows own end ends here told host = record {
+  shows_back run new old stands devices row rows own end ends here told host = record {
     stands = stands;
     calm = calm_giveback s h r old.calm;
     linked = linked_giveback s h r old.linked;
+    devices = devices;
     few_ends = old.few_ends;
     all_ends = ap length ends ∙ (length-set run.ends.items e end ∙ old.all_ends);
     each_end = each_set (ShowsEnd s f) (ShowsEnd s k) run.ends.items new.ends.items e end ends old.each_end here (λ d x off. end_else d x (λ i. off (sym i)));

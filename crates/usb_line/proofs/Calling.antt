@@ -9,13 +9,15 @@ use Rattle.usb_machine.specs.Plain.{Stands, urbs_of as count_of}
 use Rattle.usb_machine.specs.Calls.{claim_entries, unblock_entries, plain_entry}
 use Rattle.usb_scene.specs.declared.scene.Scene.{Scene}
 use Rattle.usb_scene.specs.declared.scene.Call.{Call}
+use Rattle.usb_prepare.specs.Layout.{urb_count}
 use Rattle.usb_line.specs.declared.run.LineRun.{LineRun}
 use Rattle.usb_line.specs.declared.made.Deed.{Deed}
 use Rattle.usb_line.specs.declared.made.Deed.TheVariants as deed
 use Rattle.usb_line.specs.declared.made.CallAnswer.{CallAnswer}
 use Rattle.usb_line.specs.declared.made.CallAnswer.TheVariants as told
 use Rattle.usb_line.specs.Prepared.{machine_of, pass_of, deed_of}
-use Rattle.usb_line.specs.Run.{Doing, deed_entries, down_after, below, urbs_of}
+use Rattle.usb_prepare.specs.Below.{below}
+use Rattle.usb_line.specs.Run.{Doing, deed_entries, down_after, urbs_of}
 use Rattle.usb_line.specs.Line.{Progress, adds, doing, answer_now, Makes, at_once, served, killed, poisoned, killing, WaitsFor, shutting, shut_marks, ClaimsEach, shut_down}
 use Rattle.usb_line.specs.Shows.{Shows, Served}
 use Rattle.usb_line.specs.Calls.{MayKill, Stopped, Killed, MayMake, Made, MayBeMade, Claimed}
@@ -46,7 +48,7 @@ module _ (s : Scene) (f : Progress) (i : ℕ) (c : Call) (run : LineRun) (p : �
   other e = not_server s i (may.pass ∙ e)
 
   pub is_there : IsThere s d
-  is_there = subst (IsThere s) may.does (deed_there s c can.is)
+  is_there = subst (IsThere s) may.does (deed_there s may.good c can.is)
 
   -- the pass holds few rejects
   pub few : (v : ℕ) → rejects_at v (part_of f.history p) ≤ 100
@@ -59,10 +61,10 @@ module _ (s : Scene) (f : Progress) (i : ℕ) (c : Call) (run : LineRun) (p : �
   pub is_hub : is_hubs d ≡ true → p ≡ HUB
   is_hub e = sym may.pass ∙ can.hub (ap is_hubs may.does ∙ e)
 
-  pub near_plain : (u : ℕ) → u < length s.urbs → u < count_of run.plain
+  pub near_plain : (u : ℕ) → u < urb_count s → u < count_of run.plain
   near_plain u near = subst (λ n. u < n) (sym (plain_urbs s f run may.shows)) near
 
-  pub may_kill : (u : ℕ) → u < length s.urbs → MayKill s f run p u
+  pub may_kill : (u : ℕ) → u < urb_count s → MayKill s f run p u
   may_kill u near = let l = few u in record { good = may.good; shows = may.shows; there = there; other = other; near = near; room = omega arith }
 
   -- a call that answers at once
@@ -73,12 +75,12 @@ module _ (s : Scene) (f : Progress) (i : ℕ) (c : Call) (run : LineRun) (p : �
     abbrev at : ℕ → Deed → List Entry
     at p d = deed_entries s p c d a [] [] f.down
 
-    same : entries ≡ at (pass_of s i) (deed_of c)
+    same : entries ≡ at (pass_of s i) (deed_of s c)
     same j = at (sym may.pass j) (sym may.does j)
 
     pub made_now : answer_now s f c d ≡ Some a → AreStill entries → Stands after (machine_of s) (f.history ++ entries) → b ≡ down_after f.down d a → Made s f i c a (record run { plain = after; down = b })
     made_now e still stands down =
-        let xs : List Entry = at (pass_of s i) (deed_of c) in
+        let xs : List Entry = at (pass_of s i) (deed_of s c) in
         record {
           did = doing f i c a [] [];
           far = adds f xs;
@@ -96,7 +98,7 @@ module _ (s : Scene) (f : Progress) (i : ℕ) (c : Call) (run : LineRun) (p : �
     far = m;
     makes = makes;
     told = told;
-    shows = shows_called s m now shows did now.down (shows.host ∙ (sym (same m.down) ∙ (λ j. down_after m.down (sym (ap deed_of is ∙ may.does) j) (sym told j))));
+    shows = shows_called s m now shows did now.down (shows.host ∙ (sym (same m.down) ∙ (λ j. down_after m.down (sym (ap (deed_of s) is ∙ may.does) j) (sym told j))));
   }
 
   module _ (u : ℕ) (rest : Option ℕ) (now : LineRun) where
@@ -119,7 +121,7 @@ module _ (s : Scene) (f : Progress) (i : ℕ) (c : Call) (run : LineRun) (p : �
   made_serve now is k = made_as _ k.last now told.Nothing (served k.middle k.last (may.does ∙ is) k.gave k.idle) refl refl k.shows (λ b. ap (λ d. down_after b d told.Nothing) is)
 
   -- the hub's flag on each URB says whether the host is down
-  pub flags_are : (u : ℕ) (b : Bool) → u < length s.urbs → run.down ≡ b → (state_of f.history u).flags.down ≡ b
+  pub flags_are : (u : ℕ) (b : Bool) → u < urb_count s → run.down ≡ b → (state_of f.history u).flags.down ≡ b
   flags_are u b l is = state_down s f.history u b may.shows.stands.legal (can.flags u l ∙ (sym may.shows.host ∙ is))
 
 -- the hub's calls
@@ -131,7 +133,7 @@ module _ (s : Scene) (f : Progress) (i : ℕ) (c : Call) (run : LineRun) where
         made_now s f i c run HUB deed.Down may (told.Code (Fault ESHUTDOWN)) run.plain run.down (ap (λ b. cond b (Some (told.Code (Fault ESHUTDOWN))) None) down) tt
         (subst (Stands run.plain (machine_of s)) (sym (append-nil f.history)) may.shows.stands) may.shows.host
 
-    pub made_down : (n : ℕ) (now : LineRun) → run.down ≡ false → n ≡ length s.urbs → Claimed s (shutting s HUB f) n now → Made s f i c told.Done (record now { down = true })
+    pub made_down : (n : ℕ) (now : LineRun) → run.down ≡ false → n ≡ urb_count s → Claimed s (shutting s HUB f) n now → Made s f i c told.Done (record now { down = true })
     made_down n now is all k =
         let up : f.down ≡ false = sym may.shows.host ∙ is in
         let p : ℕ = pass_of s i in
@@ -156,7 +158,7 @@ module _ (s : Scene) (f : Progress) (i : ℕ) (c : Call) (run : LineRun) where
         made_now s f i c run HUB deed.Up may told.Done run.plain run.down refl (subst (λ b. AreStill (ups b)) (sym up) tt)
         (subst (λ b. Stands run.plain (machine_of s) (f.history ++ ups b)) (sym up) (subst (Stands run.plain (machine_of s)) (sym (append-nil f.history)) may.shows.stands)) is
 
-    pub made_up : (n : ℕ) (after : Plain) → run.down ≡ true → n ≡ length s.urbs
+    pub made_up : (n : ℕ) (after : Plain) → run.down ≡ true → n ≡ urb_count s
         → Stands after (machine_of s) (f.history ++ map (λ u. plain_entry HUB (Unflag record { 0 = u } flag.Down)) (below n)) → Made s f i c told.Done (record run { plain = after; down = false })
     made_up n after is all stands =
         let down : f.down ≡ true = sym may.shows.host ∙ is in
@@ -165,10 +167,10 @@ module _ (s : Scene) (f : Progress) (i : ℕ) (c : Call) (run : LineRun) where
         (subst (λ n. Stands after (machine_of s) (f.history ++ map (λ u. plain_entry HUB (Unflag record { 0 = u } flag.Down)) (below n))) all stands)) refl
 
 -- a call that may be made, by what it does
-pub may_make : (s : Scene) (f : Progress) (i : ℕ) (c : Call) (run : LineRun) (p : ℕ) (d : Deed) → MayBeMade s f i c run → d ≡ deed_of c → p ≡ pass_of s i → MayMake s f i c run p d
+pub may_make : (s : Scene) (f : Progress) (i : ℕ) (c : Call) (run : LineRun) (p : ℕ) (d : Deed) → MayBeMade s f i c run → d ≡ deed_of s c → p ≡ pass_of s i → MayMake s f i c run p d
 may_make s f i c run p d may is pass = record { good = may.good; next = may.next; shows = may.shows; does = sym is; pass = sym pass }
 
-pub may_hub : (s : Scene) (f : Progress) (i : ℕ) (c : Call) (run : LineRun) (d : Deed) → MayBeMade s f i c run → d ≡ deed_of c → is_hubs d ≡ true → MayMake s f i c run HUB d
+pub may_hub : (s : Scene) (f : Progress) (i : ℕ) (c : Call) (run : LineRun) (d : Deed) → MayBeMade s f i c run → d ≡ deed_of s c → is_hubs d ≡ true → MayMake s f i c run HUB d
 may_hub s f i c run d may is hubs =
     let own : MayMake s f i c run (pass_of s i) d = may_make s f i c run (pass_of s i) d may is refl in
     record { good = may.good; next = may.next; shows = may.shows; does = sym is; pass = is_hub s f i c run (pass_of s i) d own hubs }

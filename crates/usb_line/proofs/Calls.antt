@@ -1,5 +1,5 @@
 -- The calls of a run in line order keep what holds between calls.
-use Rattle.std.proofs.Common.{ℕ, ◌≡◌, ◌≢◌, ◌+◌, ◌<◌, ◌≤◌, Bool, true, false, cond, eqb, Option, Some, List, [], ◌∷◌, ◌++◌, length, map, refl, sym, ap, ◌∙◌, subst, arith, append_assoc, append-nil, eq-eqb, ne_eqb, true≢false}
+use Rattle.std.proofs.Common.{ℕ, ◌≡◌, ◌≢◌, ◌+◌, ◌<◌, ◌≤◌, ⊎_elim, Bool, true, false, cond, eqb, Option, Some, List, [], ◌∷◌, ◌++◌, length, map, refl, sym, ap, ◌∙◌, subst, arith, append_assoc, append-nil, eq-eqb, ne_eqb, true≢false}
 use Rattle.std.specs.Prelude.{slice_get}
 use Rattle.std.specs.List.{flat_map, All, sum_by}
 use Rattle.std.proofs.lemmas.List.{map-append}
@@ -18,7 +18,8 @@ use Rattle.usb_machine.specs.Legal.{empty}
 use Rattle.usb_scene.specs.declared.scene.Scene.{Scene}
 use Rattle.usb_scene.specs.declared.scene.SceneThread.{SceneThread}
 use Rattle.usb_scene.specs.declared.scene.Call.{Call}
-use Rattle.usb_scene.specs.WellFormed.{IsCall, IsThread, IsWellFormed, raised, withdrawn, is_hub_call}
+use Rattle.usb_scene.specs.WellFormed.{IsCall, IsThread, IsWellFormed, is_hub_call}
+use Rattle.usb_prepare.specs.Layout.{urb_count}
 use Rattle.usb_line.specs.declared.made.Deed.{Deed}
 use Rattle.usb_line.specs.declared.made.Deed.TheVariants as deed
 use Rattle.usb_line.specs.declared.made.CallAnswer.{CallAnswer}
@@ -27,22 +28,29 @@ use Rattle.usb_line.specs.Prepared.{pass_of, deed_of, calls_of, is_hub}
 use Rattle.usb_line.specs.Run.{Doing, urbs_of, call_entries, deed_entries, IsMade, IsAnswered, down_after, AreDowns, done_by}
 use Rattle.usb_line.specs.Line.{Progress, at_start, adds, doing, with_doing, woken, killing, shutting, ClaimsEach, none, one, Makes, at_once, served, killed, poisoned, shut_down, IsLine, start, call}
 use Rattle.usb_line.proofs.Held.{rejects_at, down_at}
-use Rattle.usb_line.proofs.Deeds.{raises, withdraws, is_hubs, deed_raises, deed_withdraws, deed_hubs}
+use Rattle.usb_line.proofs.Deeds.{raises, withdraws, is_hubs, named, deed_hubs, sum_raised, sum_withdrawn, withdraws_named, withdraws_own, none_or_named}
 use Rattle.usb_line.proofs.Effects.{rejects_effect, down_effect}
 use Rattle.usb_line.proofs.Calm.{calm_empty}
 use Rattle.usb_line.proofs.Serving.{Serves}
 use Rattle.usb_line.proofs.Turns.{gives_back_serve, gives_back_turned, idle_serves, idle_turned}
 use Rattle.usb_line.proofs.Waits.{woken_serves, woken_turned, wait_turned}
 use Rattle.usb_line.proofs.Passes.{not_server, is_pass, other_threads, thread_at, is_thread, hub_pass}
-use Rattle.usb_line.proofs.Scripted.{placed, calls_by, next_call, All-middle, of_thread, only_calls}
+use Rattle.usb_line.proofs.Scripted.{placed, calls_by, next_call, All-middle, All-front, of_thread, only_calls}
 use Rattle.usb_line.proofs.Makings.{IsMadeBy, made_none, made_turned, kill_made, poison_made}
 use Rattle.usb_line.proofs.Nows.{CanCall, IsCalled, now_called}
 use Rattle.usb_line.proofs.Downs.{down_called}
 
 -- whether the host is down after some calls
-abbrev pub down_by : Bool → List Doing → Bool
-down_by b [] = b
-down_by b (d ∷ ds) = down_by (down_after b (deed_of d.call) d.answer) ds
+abbrev pub down_by : Scene → Bool → List Doing → Bool
+down_by s b [] = b
+down_by s b (d ∷ ds) = down_by s (down_after b (deed_of s d.call) d.answer) ds
+
+-- how many rejects these calls raised on URB v, and how many they withdrew
+abbrev pub sum_raised_by : Scene → ℕ → List Call → ℕ
+sum_raised_by s v calls = sum_by (λ c. raises v (deed_of s c)) calls
+
+abbrev pub sum_withdrawn_by : Scene → ℕ → List Call → ℕ
+sum_withdrawn_by s v calls = sum_by (λ c. withdraws v (deed_of s c)) calls
 
 -- what holds between the calls of a run in line order
 pub record Goes (s : Scene) (f : Progress) : Type 0 where
@@ -50,12 +58,12 @@ pub record Goes (s : Scene) (f : Progress) : Type 0 where
   pub threads : (i : ℕ) → i < length s.threads → part_of f.history (pass_of s i) ≡ flat_map (call_entries s) (done_by i f.doings)
   pub others : (p : ℕ) → p ≢ SERVER → ((i : ℕ) → i < length s.threads → p ≢ pass_of s i) → part_of f.history p ≡ []
   pub told : All (IsMade s) f.doings
-  pub downs : AreDowns false f.doings
-  pub down : down_by false f.doings ≡ f.down
+  pub downs : AreDowns s false f.doings
+  pub down : down_by s false f.doings ≡ f.down
   -- the hub holds its flag on each URB exactly where the host is down
-  pub flags : (v : ℕ) → v < length s.urbs → down_at v (part_of f.history HUB) ≡ f.down
+  pub flags : (v : ℕ) → v < urb_count s → down_at v (part_of f.history HUB) ≡ f.down
   -- a thread holds the rejects that its calls raised and did not withdraw
-  pub rejects : (i : ℕ) → i < length s.threads → (v : ℕ) → rejects_at v (part_of f.history (pass_of s i)) + sum_by (withdrawn v) (calls_by i f.doings) ≡ sum_by (raised v) (calls_by i f.doings)
+  pub rejects : (i : ℕ) → i < length s.threads → (v : ℕ) → rejects_at v (part_of f.history (pass_of s i)) + sum_withdrawn_by s v (calls_by i f.doings) ≡ sum_raised_by s v (calls_by i f.doings)
 
 pub goes_start : (s : Scene) → Goes s at_start
 goes_start s = record {
@@ -79,13 +87,13 @@ goes_start s = record {
   rejects = λ i l v. refl;
 }
 
-AreDowns-push : (b : Bool) (ds : List Doing) (d : Doing) → AreDowns b ds → d.down ≡ down_by b ds → AreDowns b (ds ++ d ∷ [])
-AreDowns-push b [] d all e = (e, tt)
-AreDowns-push b (x ∷ ds) d all e = (all.0, AreDowns-push (down_after b (deed_of x.call) x.answer) ds d all.1 e)
+AreDowns-push : (s : Scene) (b : Bool) (ds : List Doing) (d : Doing) → AreDowns s b ds → d.down ≡ down_by s b ds → AreDowns s b (ds ++ d ∷ [])
+AreDowns-push s b [] d all e = (e, tt)
+AreDowns-push s b (x ∷ ds) d all e = (all.0, AreDowns-push s (down_after b (deed_of s x.call) x.answer) ds d all.1 e)
 
-down_by-push : (b : Bool) (ds : List Doing) (d : Doing) → down_by b (ds ++ d ∷ []) ≡ down_after (down_by b ds) (deed_of d.call) d.answer
-down_by-push b [] d = refl
-down_by-push b (x ∷ ds) d = down_by-push (down_after b (deed_of x.call) x.answer) ds d
+down_by-push : (s : Scene) (b : Bool) (ds : List Doing) (d : Doing) → down_by s b (ds ++ d ∷ []) ≡ down_after (down_by s b ds) (deed_of s d.call) d.answer
+down_by-push s b [] d = refl
+down_by-push s b (x ∷ ds) d = down_by-push s (down_after b (deed_of s x.call) x.answer) ds d
 
 -- a deed that is not the hub's leaves the host as it is
 same_down : (b : Bool) (dd : Deed) (a : CallAnswer) → is_hubs dd ≡ false → down_after b dd a ≡ b
@@ -116,26 +124,43 @@ module _ (s : Scene) (good : IsWellFormed s) (f : Progress) (i : ℕ) (c : Call)
   split : thread.calls ≡ calls_by i f.doings ++ c ∷ behind
   split = next_call s f.doings i c next.0 next.1 thread is_at
 
+  all_calls : All (IsCall s) (calls_by i f.doings ++ c ∷ behind)
+  all_calls = subst (All (IsCall s)) split formed.calls
+
   pub is_call : IsCall s c
-  is_call = All-middle (IsCall s) (calls_by i f.doings) c behind (subst (All (IsCall s)) split formed.calls)
+  is_call = All-middle (IsCall s) (calls_by i f.doings) c behind all_calls
 
-  is_backed : (v : ℕ) → withdraws v (deed_of c) ≡ 1 → 0 < rejects_at v (part_of f.history p)
-  is_backed v e = let held = formed.held.held (calls_by i f.doings) c behind v split (deed_withdraws s c is_call v ∙ e) in let sums = old.rejects i near v in omega arith
+  are_calls : All (IsCall s) (calls_by i f.doings)
+  are_calls = All-front (IsCall s) (calls_by i f.doings) (c ∷ behind) all_calls
 
-  only_hub : is_hubs (deed_of c) ≡ true → p ≡ HUB
+  is_backed : (v : ℕ) → withdraws v (deed_of s c) ≡ 1 → 0 < rejects_at v (part_of f.history p)
+  is_backed v e =
+      let held = formed.held.held (calls_by i f.doings) c behind c.target split (withdraws_own s good c is_call v e) in
+      let up = sum_raised s good c is_call v (withdraws_named s good c is_call v e) (calls_by i f.doings) are_calls in
+      let down = sum_withdrawn s good c is_call v (withdraws_named s good c is_call v e) (calls_by i f.doings) are_calls in
+      let sums = old.rejects i near v in omega arith
+
+  only_hub : is_hubs (deed_of s c) ≡ true → p ≡ HUB
   only_hub e = go (is_hub thread) refl
     where
       go : (b : Bool) → is_hub thread ≡ b → p ≡ HUB
       go true is = hub_pass s i thread is_at is
       go false is = let none = All-middle (λ (c : Call). is_hub_call c.code ≡ false) (calls_by i f.doings) c behind (subst (All (λ (c : Call). is_hub_call c.code ≡ false)) split (formed.hub is)) in
-          absurd (true≢false (sym e ∙ (sym (deed_hubs s c is_call) ∙ none)))
+          absurd (true≢false (sym e ∙ (sym (deed_hubs s good c is_call) ∙ none)))
 
   pub can_call : CanCall s f i c
   can_call = record { serves = old.serves; near = near; is = is_call; backed = is_backed; hub = only_hub; flags = old.flags }
 
   -- a script never holds many rejects
   pub few_held : (v : ℕ) → rejects_at v (part_of f.history p) ≤ 100
-  few_held v = let most = formed.held.most (calls_by i f.doings) (c ∷ behind) v split in let sums = old.rejects i near v in omega arith
+  few_held v = ⊎_elim
+      (λ (none : sum_raised_by s v (calls_by i f.doings) ≡ 0). let sums = old.rejects i near v in omega arith)
+      (λ (some : (c : Call) × (is : IsCall s c) × (named s c.target ≡ Some v)).
+      let most = formed.held.most (calls_by i f.doings) (c ∷ behind) some.0.target split in
+      let up = sum_raised s good some.0 some.1 v some.2 (calls_by i f.doings) are_calls in
+      let down = sum_withdrawn s good some.0 some.1 v some.2 (calls_by i f.doings) are_calls in
+      let sums = old.rejects i near v in omega arith)
+      (none_or_named s good v (calls_by i f.doings) are_calls)
 
   -- a call that was made is counted
   module _ (d : Doing) (m : Progress) (thread_is : d.thread ≡ i) (call_is : d.call ≡ c) (found : d.down ≡ f.down) (done : IsCalled s f i d m) where
@@ -159,33 +184,34 @@ module _ (s : Scene) (good : IsWellFormed s) (f : Progress) (i : ℕ) (c : Call)
         ∙ (sym (flat_map-append (call_entries s) (done_by i f.doings) (d ∷ [])) ∙ ap (flat_map (call_entries s)) (sym done_own)))))
         (λ off. done.made.elsewhere (pass_of s j) (not_server s j) (other_threads s good j i l near off) ∙ (old.threads j l ∙ ap (flat_map (call_entries s)) (sym (done_other j off))))
 
-    flags_now : (v : ℕ) → v < length s.urbs → down_at v (part_of k.history HUB) ≡ k.down
+    flags_now : (v : ℕ) → v < urb_count s → down_at v (part_of k.history HUB) ≡ k.down
     flags_now v l = dite (ℕ_discrete p HUB)
         (λ hub.
         let before : down_at v (part_of f.history p) ≡ d.down = ap (λ q. down_at v (part_of f.history q)) hub ∙ (old.flags v l ∙ sym found) in
         ap (λ q. down_at v (part_of m.history q)) (sym hub) ∙ (ap (down_at v) done.made.own
-        ∙ (down_effect s (pass_of s d.thread) d (part_of f.history p) v l (deed_of d.call) d.answer done.answered before ∙ ap (λ b. down_after b (deed_of d.call) d.answer) (found ∙ sym done.made.down))))
+        ∙ (down_effect s (pass_of s d.thread) d (part_of f.history p) v l (deed_of s d.call) d.answer done.answered before ∙ ap (λ b. down_after b (deed_of s d.call) d.answer) (found ∙ sym done.made.down))))
         (λ off.
-        ap (down_at v) (done.made.elsewhere HUB (λ e. absurd (omega arith)) (λ e. off (sym e))) ∙ (old.flags v l ∙ (sym done.made.down ∙ sym (same_down m.down (deed_of d.call) d.answer (ap (λ (c : Call). is_hubs (deed_of c)) call_is ∙ not_hub (is_hubs (deed_of c)) refl off)))))
+        ap (down_at v) (done.made.elsewhere HUB (λ e. absurd (omega arith)) (λ e. off (sym e))) ∙ (old.flags v l ∙ (sym done.made.down ∙ sym (same_down m.down (deed_of s d.call) d.answer (ap (λ (c : Call). is_hubs (deed_of s c)) call_is ∙ not_hub (is_hubs (deed_of s c)) refl off)))))
       where
-        not_hub : (b : Bool) → is_hubs (deed_of c) ≡ b → p ≢ HUB → is_hubs (deed_of c) ≡ false
+        not_hub : (b : Bool) → is_hubs (deed_of s c) ≡ b → p ≢ HUB → is_hubs (deed_of s c) ≡ false
         not_hub true e off = absurd (off (only_hub e))
         not_hub false e off = e
 
-    rejects_now : (j : ℕ) → j < length s.threads → (v : ℕ) → rejects_at v (part_of k.history (pass_of s j)) + sum_by (withdrawn v) (calls_by j k.doings) ≡ sum_by (raised v) (calls_by j k.doings)
+    rejects_now : (j : ℕ) → j < length s.threads → (v : ℕ) → rejects_at v (part_of k.history (pass_of s j)) + sum_withdrawn_by s v (calls_by j k.doings) ≡ sum_raised_by s v (calls_by j k.doings)
     rejects_now j l v = dite (ℕ_discrete j i)
-        (λ is. subst (λ j. rejects_at v (part_of k.history (pass_of s j)) + sum_by (withdrawn v) (calls_by j k.doings) ≡ sum_by (raised v) (calls_by j k.doings)) (sym is)
+        (λ is. subst (λ j. rejects_at v (part_of k.history (pass_of s j)) + sum_withdrawn_by s v (calls_by j k.doings) ≡ sum_raised_by s v (calls_by j k.doings)) (sym is)
         (let calls : calls_by i k.doings ≡ calls_by i f.doings ++ c ∷ [] = ap (map (λ (d : Doing). d.call)) done_own ∙ (map-append (λ (d : Doing). d.call) (done_by i f.doings) (d ∷ []) ∙ ap (λ c. calls_by i f.doings ++ c ∷ []) call_is) in
-        let down : sum_by (withdrawn v) (calls_by i k.doings) ≡ sum_by (withdrawn v) (calls_by i f.doings) + withdrawn v c = ap (sum_by (withdrawn v)) calls ∙ sum_by_push (withdrawn v) (calls_by i f.doings) c in
-        let up : sum_by (raised v) (calls_by i k.doings) ≡ sum_by (raised v) (calls_by i f.doings) + raised v c = ap (sum_by (raised v)) calls ∙ sum_by_push (raised v) (calls_by i f.doings) c in
+        let down : sum_withdrawn_by s v (calls_by i k.doings) ≡ sum_withdrawn_by s v (calls_by i f.doings) + withdraws v (deed_of s c) = ap (sum_withdrawn_by s v) calls ∙ sum_by_push (λ c. withdraws v (deed_of s c)) (calls_by i f.doings) c in
+        let up : sum_raised_by s v (calls_by i k.doings) ≡ sum_raised_by s v (calls_by i f.doings) + raises v (deed_of s c) = ap (sum_raised_by s v) calls ∙ sum_by_push (λ c. raises v (deed_of s c)) (calls_by i f.doings) c in
         let held = ap (rejects_at v) done.made.own in
-        let effect = rejects_effect s (pass_of s d.thread) d (part_of f.history p) v (deed_of d.call) d.answer done.answered (λ e. is_backed v (ap (λ c. withdraws v (deed_of c)) (sym call_is) ∙ e)) in
-        let w = deed_withdraws s c is_call v ∙ ap (λ c. withdraws v (deed_of c)) (sym call_is) in let r = deed_raises s c is_call v ∙ ap (λ c. raises v (deed_of c)) (sym call_is) in
+        let effect = rejects_effect s (pass_of s d.thread) d (part_of f.history p) v (deed_of s d.call) d.answer done.answered (λ e. is_backed v (ap (λ c. withdraws v (deed_of s c)) (sym call_is) ∙ e)) in
+        let w : withdraws v (deed_of s c) ≡ withdraws v (deed_of s d.call) = ap (λ c. withdraws v (deed_of s c)) (sym call_is) in
+        let r : raises v (deed_of s c) ≡ raises v (deed_of s d.call) = ap (λ c. raises v (deed_of s c)) (sym call_is) in
         let sums = old.rejects i near v in omega arith))
         (λ off.
         let part = ap (rejects_at v) (done.made.elsewhere (pass_of s j) (not_server s j) (other_threads s good j i l near off)) in
         let calls : calls_by j k.doings ≡ calls_by j f.doings = ap (map (λ (d : Doing). d.call)) (done_other j off) in
-        let down = ap (sum_by (withdrawn v)) calls in let up = ap (sum_by (raised v)) calls in let sums = old.rejects j l v in omega arith)
+        let down = ap (sum_withdrawn_by s v) calls in let up = ap (sum_raised_by s v) calls in let sums = old.rejects j l v in omega arith)
 
     pub counted : Goes s k
     counted = record {
@@ -193,8 +219,8 @@ module _ (s : Scene) (good : IsWellFormed s) (f : Progress) (i : ℕ) (c : Call)
       threads = parts;
       others = λ q off none. done.made.elsewhere q off (none i near) ∙ old.others q off none;
       told = subst (All (IsMade s)) (sym doings_are) (All-push (IsMade s) f.doings d old.told record { thread = subst (λ j. j < length s.threads) (sym thread_is) near; answered = done.answered });
-      downs = subst (AreDowns false) (sym doings_are) (AreDowns-push false f.doings d old.downs (found ∙ sym old.down));
-      down = ap (down_by false) doings_are ∙ (down_by-push false f.doings d ∙ ap (λ b. down_after b (deed_of d.call) d.answer) (old.down ∙ sym done.made.down));
+      downs = subst (AreDowns s false) (sym doings_are) (AreDowns-push s false f.doings d old.downs (found ∙ sym old.down));
+      down = ap (down_by s false) doings_are ∙ (down_by-push s false f.doings d ∙ ap (λ b. down_after b (deed_of s d.call) d.answer) (old.down ∙ sym done.made.down));
       flags = flags_now;
       rejects = rejects_now;
     }

@@ -19,7 +19,9 @@ use Rattle.usb_machine.specs.Calls.{plain_entry, mark_entry, claim_entries, unbl
 use Rattle.usb_machine.proofs.Steps.{state_of-snoc}
 use Rattle.usb_machine.proofs.Rooms.{pending_is_queued}
 use Rattle.usb_scene.specs.declared.scene.Scene.{Scene}
-use Rattle.usb_line.specs.Prepared.{machine_of, ends_of, home, main_pass}
+use Rattle.usb_prepare.specs.Ends.{ends_of}
+use Rattle.usb_prepare.specs.Layout.{home}
+use Rattle.usb_line.specs.Prepared.{machine_of, main_pass}
 use Rattle.usb_line.specs.Run.{Giveback, giveback_entries, kills_of, seen_quiet}
 use Rattle.usb_line.specs.Line.{Progress, adds, takes_below, with_takes, round_of, given_back, replies_had, had_after, killing, Gives, unlinked, ended, woken, StaysLoud, begins, goes_on, WaitsFor, already, turns, Closes, none, one}
 use Rattle.usb_line.proofs.Entries.{AreOf, AllFollow}

@@ -17,10 +17,12 @@ use Rattle.usb_machine.specs.Legal.{times, Follows}
 use Rattle.usb_machine.specs.Calls.{plain_entry, mark_entry, marks_of, claims_of, claim_entries}
 use Rattle.usb_scene.specs.declared.scene.Scene.{Scene}
 use Rattle.usb_scene.specs.declared.scene.Call.{Call}
+use Rattle.usb_prepare.specs.Layout.{urb_count}
 use Rattle.usb_line.specs.declared.made.Deed.TheVariants as deed
 use Rattle.usb_line.specs.declared.made.CallAnswer.TheVariants as told
 use Rattle.usb_line.specs.Prepared.{machine_of, pass_of, deed_of}
-use Rattle.usb_line.specs.Run.{below, urbs_of, Doing, deed_entries, IsDownAnswer, IsAnswered}
+use Rattle.usb_prepare.specs.Below.{below}
+use Rattle.usb_line.specs.Run.{urbs_of, Doing, deed_entries, IsDownAnswer, IsAnswered}
 use Rattle.usb_line.specs.Line.{Progress, adds, doing, all_flagged, shut_marks, shutting, ClaimsEach, none, one}
 use Rattle.usb_line.proofs.Entries.{AllFollow}
 use Rattle.usb_line.proofs.MayFollow.{mark_follows, flag_follows}
@@ -74,7 +76,7 @@ module _ (s : Scene) (p : ℕ) (off : p ≢ SERVER) (there : p < 2 + (length s.t
       (made_entries s k p (claim_entries p u (state_of k.history u).rest) off (refl, (refl, tt))
       (claim_follow s p u there k.history quiet.0 quiet.1 (holds_down (held_of (part_of k.history p) u) down)) waited.serves))
 
-module _ (s : Scene) (f : Progress) (i : ℕ) (c : Call) (can : CanCall s f i c) (is : deed_of c ≡ deed.Down) (up : f.down ≡ false) where
+module _ (s : Scene) (f : Progress) (i : ℕ) (c : Call) (can : CanCall s f i c) (is : deed_of s c ≡ deed.Down) (up : f.down ≡ false) where
   abbrev p : ℕ
   p = pass_of s i
 
@@ -86,7 +88,7 @@ module _ (s : Scene) (f : Progress) (i : ℕ) (c : Call) (can : CanCall s f i c)
 
   flags_follow : AllFollow (machine_of s) f.history flags
   flags_follow = subst (λ p. AllFollow (machine_of s) f.history (map (λ u. plain_entry p (Flag record { 0 = u } flag.Down)) (urbs_of s))) (sym hub)
-      (each_follow (λ u. plain_entry HUB (Flag record { 0 = u } flag.Down)) (λ u. (tt, refl)) f.history (machine_of s) (length s.urbs)
+      (each_follow (λ u. plain_entry HUB (Flag record { 0 = u } flag.Down)) (λ u. (tt, refl)) f.history (machine_of s) (urb_count s)
       (λ u l k same. flag_follows s k u flag.Down (ap (λ (t : UrbState). t.flags.down) same ∙ state_down s f.history u false can.serves.legal (can.flags u l ∙ up))))
 
   flagged : IsMadeBy s f p flags (all_flagged s p f)
@@ -103,7 +105,7 @@ module _ (s : Scene) (f : Progress) (i : ℕ) (c : Call) (can : CanCall s f i c)
 
   marks_follow : AllFollow (machine_of s) at_flags marks
   marks_follow = subst (AllFollow (machine_of s) at_flags) (sym (marks_by p Shutdown answer (urbs_of s)))
-      (each_follow (λ u. mark_entry p Shutdown u (answer u)) (λ u. (tt, refl)) at_flags (machine_of s) (length s.urbs)
+      (each_follow (λ u. mark_entry p Shutdown u (answer u)) (λ u. (tt, refl)) at_flags (machine_of s) (urb_count s)
       (λ u l k same. subst (λ (a : Code). Follows (machine_of s) k (mark_entry p Shutdown u a)) (ap unlinking same) (mark_follows s k p u (is_pass s i can.near) Shutdown)))
 
   shut : IsMadeBy s f p (flags ++ marks) (shutting s p f)
@@ -113,7 +115,7 @@ module _ (s : Scene) (f : Progress) (i : ℕ) (c : Call) (can : CanCall s f i c)
   all_down : (v : ℕ) → 0 < times v (urbs_of s) → down_at v (part_of (shutting s p f).history p) ≡ true
   all_down v l = ap (down_at v) (shut.own ∙ sym (append_assoc (part_of f.history p) flags marks))
       ∙ (ap (λ f. f.down) (no_flag v (part_of f.history p ++ flags) marks (marks_no_flag p Shutdown (urbs_of s) (shut_marks s p f)))
-      ∙ all_flags v (part_of f.history p) p (length s.urbs) (in_below (length s.urbs) v l))
+      ∙ all_flags v (part_of f.history p) p (urb_count s) (in_below (urb_count s) v l))
 
   module _ (rests : List (Option ℕ)) (m : Progress) (claims : ClaimsEach s p (shutting s p f) (urbs_of s) rests m) where
     abbrev made : Doing
@@ -128,8 +130,8 @@ module _ (s : Scene) (f : Progress) (i : ℕ) (c : Call) (can : CanCall s f i c)
       answered = subst (λ dd. IsAnswered s made dd told.Done) (sym is) (
         subst (λ b. IsDownAnswer b told.Done) (sym up) refl,
         λ _. (
-          length-map (urbs_of s) answer ∙ length-below (length s.urbs),
-          claims_length s p (not_server s i) (is_pass s i can.near) (shutting s p f) (urbs_of s) rests m claims ∙ length-below (length s.urbs),
+          length-map (urbs_of s) answer ∙ length-below (urb_count s),
+          claims_length s p (not_server s i) (is_pass s i can.near) (shutting s p f) (urbs_of s) rests m claims ∙ length-below (urb_count s),
         ),
       );
     }

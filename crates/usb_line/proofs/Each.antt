@@ -11,7 +11,7 @@ use Rattle.usb_machine.specs.History.{Machine, state_of}
 use Rattle.usb_machine.specs.Legal.{Follows, urb_of}
 use Rattle.usb_machine.specs.Plain.{IsOfUrb}
 use Rattle.usb_machine.specs.Calls.{mark_entry, marks_of}
-use Rattle.usb_line.specs.Run.{below}
+use Rattle.usb_prepare.specs.Below.{below}
 use Rattle.usb_line.proofs.Entries.{own_state, other_state, AllFollow, AllFollow-append}
 
 -- marks with the answers that a function says

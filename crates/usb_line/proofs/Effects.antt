@@ -10,6 +10,7 @@ use Rattle.usb_machine.specs.declared.transfer.Transfer.{Transfer}
 use Rattle.usb_machine.specs.declared.entry.Entry.{Entry}
 use Rattle.usb_machine.specs.Calls.{plain_entry, poison_entries, kill_entries, marks_of, claims_of}
 use Rattle.usb_scene.specs.declared.scene.Scene.{Scene}
+use Rattle.usb_prepare.specs.Layout.{urb_count}
 use Rattle.usb_line.specs.declared.made.Deed.{Deed}
 use Rattle.usb_line.specs.declared.made.Deed.TheVariants as deed
 use Rattle.usb_line.specs.declared.made.CallAnswer.{CallAnswer}
@@ -88,6 +89,7 @@ module _ (s : Scene) (p : ℕ) (d : Doing) (m : List Entry) (v : ℕ) where
   rejects_effect (deed.Block u) told.Done is backed = let e = one_reject v m p u in omega arith
   rejects_effect (deed.Unblock u) told.Done is backed = withdraw_effect m v p u backed
   rejects_effect deed.Serve a is backed = none_effect m v [] tt
+  rejects_effect deed.Absent a is backed = none_effect m v [] tt
   rejects_effect deed.Down told.Done is backed = none_effect m v _
       (AreNoReject-append (map (λ u. plain_entry p (Flag record { 0 = u } flag.Down)) (urbs_of s) ++ marks_of p Shutdown (urbs_of s) d.marks) (claims_of p (urbs_of s) d.rests)
       (AreNoReject-append (map (λ u. plain_entry p (Flag record { 0 = u } flag.Down)) (urbs_of s)) (marks_of p Shutdown (urbs_of s) d.marks) (flags_no_reject p (urbs_of s)) (marks_no_reject p Shutdown (urbs_of s) d.marks))
@@ -118,7 +120,7 @@ module _ (s : Scene) (p : ℕ) (d : Doing) (m : List Entry) (v : ℕ) where
   same_down xs is e = ap (λ f. f.down) (no_flag v m xs is) ∙ e
 
   -- and they leave the flag that says whether the host is down
-  pub down_effect : v < length s.urbs → (dd : Deed) (a : CallAnswer) → IsAnswered s d dd a → down_at v m ≡ d.down → down_at v (m ++ entries dd a) ≡ down_after d.down dd a
+  pub down_effect : v < urb_count s → (dd : Deed) (a : CallAnswer) → IsAnswered s d dd a → down_at v m ≡ d.down → down_at v (m ++ entries dd a) ≡ down_after d.down dd a
   down_effect near (deed.Submit u) (told.Code c) is e = same_down _ (submit_no_flag p u (fresh s u d.call) (submit_fault s u d.call) c) e
   down_effect near (deed.Unlink u) (told.Code c) is e = same_down _ (tt, tt) e
   down_effect near (deed.Kill u) (told.Buffer n) is e = same_down _ (go d.marks) e
@@ -135,17 +137,18 @@ module _ (s : Scene) (p : ℕ) (d : Doing) (m : List Entry) (v : ℕ) where
   down_effect near (deed.Block u) told.Done is e = same_down _ (tt, tt) e
   down_effect near (deed.Unblock u) told.Done is e = same_down _ (tt, tt) e
   down_effect near deed.Serve a is e = same_down [] tt e
+  down_effect near deed.Absent a is e = same_down [] tt e
   down_effect near deed.Down told.Done is e =
       let flags = map (λ u. plain_entry p (Flag record { 0 = u } flag.Down)) (urbs_of s) in let marks = marks_of p Shutdown (urbs_of s) d.marks in let claims = claims_of p (urbs_of s) d.rests in
       ap (down_at v) (sym (append_assoc m (flags ++ marks) claims)) ∙ (ap (λ f. f.down) (no_flag v (m ++ (flags ++ marks)) claims (claims_no_flag p (urbs_of s) d.rests))
-      ∙ (ap (down_at v) (sym (append_assoc m flags marks)) ∙ (ap (λ f. f.down) (no_flag v (m ++ flags) marks (marks_no_flag p Shutdown (urbs_of s) d.marks)) ∙ all_flags v m p (length s.urbs) near)))
+      ∙ (ap (down_at v) (sym (append_assoc m flags marks)) ∙ (ap (λ f. f.down) (no_flag v (m ++ flags) marks (marks_no_flag p Shutdown (urbs_of s) d.marks)) ∙ all_flags v m p (urb_count s) near)))
   down_effect near deed.Down (told.Code c) is e = same_down [] tt e
   down_effect near deed.Down told.Nothing is e = same_down [] tt e
   down_effect near deed.Down (told.Buffer n) is e = same_down [] tt e
   down_effect near deed.Up told.Done is e = go d.down e
     where
       go : (b : Bool) → down_at v m ≡ b → down_at v (m ++ deed_entries s p d.call deed.Up told.Done d.marks d.rests b) ≡ false
-      go true e = all_unflags v m p (length s.urbs) near
+      go true e = all_unflags v m p (urb_count s) near
       go false e = ap (down_at v) (append-nil m) ∙ e
   down_effect near (deed.Unpoison u) told.Nothing is e = cc
   down_effect near (deed.Unpoison u) (told.Code c) is e = cc
@@ -179,6 +182,7 @@ entries_pass s p d (deed.Unpoison u) told.Done is = (refl, tt)
 entries_pass s p d (deed.Block u) told.Done is = (refl, tt)
 entries_pass s p d (deed.Unblock u) told.Done is = (refl, tt)
 entries_pass s p d deed.Serve a is = tt
+entries_pass s p d deed.Absent a is = tt
 entries_pass s p d deed.Down told.Done is =
     AreOf-append p (map (λ u. plain_entry p (Flag record { 0 = u } flag.Down)) (urbs_of s) ++ marks_of p Shutdown (urbs_of s) d.marks) (claims_of p (urbs_of s) d.rests)
     (AreOf-append p (map (λ u. plain_entry p (Flag record { 0 = u } flag.Down)) (urbs_of s)) (marks_of p Shutdown (urbs_of s) d.marks) (flags_pass p flag.Down (urbs_of s)) (marks_pass p Shutdown (urbs_of s) d.marks))

@@ -15,9 +15,11 @@ use Rattle.usb_machine.specs.Legal.{times}
 use Rattle.usb_machine.specs.Plain.{Stands}
 use Rattle.usb_machine.specs.Calls.{plain_entry, mark_entry, claim_entries, unblock_entries, kill_entries}
 use Rattle.usb_scene.specs.declared.scene.Scene.{Scene}
+use Rattle.usb_prepare.specs.Layout.{urb_count}
 use Rattle.usb_line.specs.declared.run.LineRun.{LineRun}
 use Rattle.usb_line.specs.Prepared.{machine_of, main_pass}
-use Rattle.usb_line.specs.Run.{below, urbs_of, seen_quiet}
+use Rattle.usb_prepare.specs.Below.{below}
+use Rattle.usb_line.specs.Run.{urbs_of, seen_quiet}
 use Rattle.usb_line.specs.Line.{Progress, adds, killing, Closes, none, one}
 use Rattle.usb_line.specs.Calls.{MayKill, Killed, IsCalled, KilledEach, Closed}
 use Rattle.usb_line.proofs.Entries.{grows}
@@ -69,7 +71,7 @@ module _ (s : Scene) where
 
     module _ (n : ℕ) (now : LineRun) (at : KilledEach s f n now) where
       -- main may kill the next URB
-      pub next_kill : n < length s.urbs → MayKill s at.far now main n
+      pub next_kill : n < urb_count s → MayKill s at.far now main n
       next_kill near =
           let none = few_rejects n (below n) at.far at.closes in
           record { good = is.good; shows = at.shows; there = main_is_pass s; other = main_not_server s; near = near; room = omega arith }
@@ -79,7 +81,7 @@ module _ (s : Scene) where
           let last : Progress = adds k.far (claim_entries main n (state_of k.far.history n).rest ++ unblock_entries main n) in
           record { far = last; closes = subst (λ j. Closes s f (below j) last) (sym (add-one n)) (one (below n) n at.far k.far at.closes k.waits); shows = k.shows }
 
-    module _ (n : ℕ) (all : n ≡ length s.urbs) (now : LineRun) (at : KilledEach s f n now) where
+    module _ (n : ℕ) (all : n ≡ urb_count s) (now : LineRun) (at : KilledEach s f n now) where
       closes : Closes s f (urbs_of s) at.far
       closes = subst (λ n. Closes s f (below n) at.far) all at.closes
 
@@ -87,7 +89,7 @@ module _ (s : Scene) where
       each_quiet : (u : ℕ) → u < n → ((state_of at.far.history u).queued ≡ false) × ((state_of at.far.history u).handlers ≡ 0) × ((held_of (part_of at.far.history main) u).rejects < 255)
       each_quiet u near =
           let none = few_rejects u (urbs_of s) at.far closes in (
-            (closes_kill s f (urbs_of s) at.far closes goes.serves).out u (all_below (length s.urbs) u (subst (λ n. u < n) all near)),
+            (closes_kill s f (urbs_of s) at.far closes goes.serves).out u (all_below (urb_count s) u (subst (λ n. u < n) all near)),
             (at.shows.calm u).handlers,
             omega arith,
           )

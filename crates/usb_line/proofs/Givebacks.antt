@@ -21,7 +21,9 @@ use Rattle.usb_xfer.proofs.Windows.{moved_window}
 use Rattle.usb_scene.specs.declared.scene.Scene.{Scene}
 use Rattle.usb_line.specs.declared.made.Outcome.{Outcome}
 use Rattle.usb_line.specs.declared.made.Outcome.TheVariants as outcome
-use Rattle.usb_line.specs.Prepared.{machine_of, home, shape_at}
+use Rattle.usb_prepare.specs.Ends.{shape_at}
+use Rattle.usb_prepare.specs.Layout.{home}
+use Rattle.usb_line.specs.Prepared.{machine_of}
 pub use Rattle.usb_line.specs.Back.{IsGated, IsSettled, CanGive}
 use Rattle.usb_line.specs.Run.{Giveback, moved_in, resent, handled_by, handler_entries, given_entries, giveback_entries}
 use Rattle.usb_line.proofs.Entries.{AreOf, AreAbout, change, own_state, other_state, AllFollow, AllFollow-append}

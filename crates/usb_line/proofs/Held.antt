@@ -16,7 +16,7 @@ use Rattle.usb_machine.specs.declared.pass_row.Held.{Held}
 use Rattle.usb_machine.specs.Calls.{plain_entry, marks_of, claims_of}
 use Rattle.usb_machine.proofs.Steps.{held_of-snoc}
 use Rattle.usb_machine.proofs.Held.{SetsNoFlag, held_flags_stay}
-use Rattle.usb_line.specs.Run.{below}
+use Rattle.usb_prepare.specs.Below.{below}
 use Rattle.usb_line.proofs.Entries.{AreOf}
 
 abbrev pub held_step : ℕ → Held → Entry → Held

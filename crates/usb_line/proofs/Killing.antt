@@ -1,6 +1,5 @@
 -- Kills: what the machine stands for at each step, and what the run's object shows then.
-use Rattle.std.proofs.Common.{ℕ, ◌≡◌, ◌<◌, true, false, cond, eqb, Option, List, [], ◌∷◌, ◌++◌, length, refl, sym, ap, ◌∙◌, subst, arith, append_assoc, eq-eqb}
-use Rattle.std.proofs.lemmas.List.{length-map}
+use Rattle.std.proofs.Common.{ℕ, ◌≡◌, ◌<◌, true, false, cond, eqb, Option, List, [], ◌∷◌, ◌++◌, refl, sym, ap, ◌∙◌, subst, arith, append_assoc, eq-eqb}
 use Rattle.usb_types.specs.declared.errno.Code.{Code}
 use Rattle.usb_types.specs.declared.urb.Why.TheVariants.{Kill}
 use Rattle.usb_machine.specs.declared.event.Event.TheVariants.{Reject, Withdraw}
@@ -13,7 +12,8 @@ use Rattle.usb_machine.specs.Plain.{Stands, urbs_of}
 use Rattle.usb_machine.specs.Calls.{plain_entry, mark_entry, claim_entries, unblock_entries}
 use Rattle.usb_scene.specs.declared.scene.Scene.{Scene}
 use Rattle.usb_line.specs.declared.run.LineRun.{LineRun}
-use Rattle.usb_line.specs.Prepared.{machine_of, home_at}
+use Rattle.usb_prepare.specs.Layout.{urb_count}
+use Rattle.usb_line.specs.Prepared.{machine_of}
 use Rattle.usb_line.specs.Line.{Progress, adds, killing, WaitsFor}
 use Rattle.usb_line.specs.Shows.{Shows}
 use Rattle.usb_line.specs.Calls.{MayKill}
@@ -23,8 +23,8 @@ use Rattle.usb_line.proofs.Waits.{wait_turned, wait_quiet}
 use Rattle.usb_line.proofs.Showing.{shows_still}
 
 -- the machine has the URBs of the scene
-pub plain_urbs : (s : Scene) (f : Progress) (run : LineRun) → Shows s f run → urbs_of run.plain ≡ length s.urbs
-plain_urbs s f run shows = shows.stands.urbs ∙ length-map s.urbs (home_at s)
+pub plain_urbs : (s : Scene) (f : Progress) (run : LineRun) → Shows s f run → urbs_of run.plain ≡ urb_count s
+plain_urbs s f run shows = shows.stands.urbs
 
 module _ (s : Scene) (f : Progress) (run : LineRun) (p u : ℕ) (may : MayKill s f run p u) where
   abbrev reject : Entry

@@ -10,11 +10,11 @@ pub mod Moving
 pub mod Unlinking
 pub mod Returned
 pub mod Chained
+pub mod Devices
 pub mod Pendings
 pub mod Stepping
 pub mod Taking
 pub mod Homes
-pub mod Asked
 pub mod Bytes
 pub mod Moves
 pub mod Givebacks
@@ -46,7 +46,6 @@ pub mod Alone
 pub mod Stopping
 pub mod Showing
 pub mod Awake
-pub mod Preparing
 pub mod Opening
 pub mod Waiting
 pub mod Killing

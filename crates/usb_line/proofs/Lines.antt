@@ -3,7 +3,6 @@ use Rattle.std.proofs.Common.{ℕ, zero, suc, ◌≡◌, ◌+◌, ◌<◌, ◌�
 use Rattle.std.specs.Prelude.{slice_get}
 use Rattle.std.specs.List.{flat_map, All}
 use Rattle.std.proofs.lemmas.List.Elements.{filter-append}
-use Rattle.std.proofs.lemmas.List.{length-map}
 use mathlib.Core.Logic.{dite}
 use native.Mathlib.Decide.{ℕ_discrete}
 use Rattle.usb_machine.specs.declared.entry.Entry.{Entry}
@@ -15,8 +14,10 @@ use Rattle.usb_machine.proofs.Places.{placed}
 use Rattle.usb_machine.proofs.Rooms.{queued_has_home, home_below, in_line_once}
 use Rattle.usb_scene.specs.declared.scene.Scene.{Scene}
 use Rattle.usb_scene.specs.WellFormed.{IsWellFormed}
-use Rattle.usb_line.specs.Prepared.{machine_of, home_at, script_of, pass_of, main_pass}
-use Rattle.usb_line.specs.Run.{urbs_of, below, Giveback, done_by, call_entries, seen_quiet, kills_of, rounds_at, replies_in, firsts_of, IsMade, AreDowns, IsOver, IsClosed, IsRun}
+use Rattle.usb_prepare.specs.Layout.{urb_count}
+use Rattle.usb_line.specs.Prepared.{machine_of, script_of, pass_of, main_pass}
+use Rattle.usb_prepare.specs.Below.{below}
+use Rattle.usb_line.specs.Run.{urbs_of, Giveback, done_by, call_entries, seen_quiet, kills_of, rounds_at, replies_in, firsts_of, IsMade, AreDowns, IsOver, IsClosed, IsRun}
 use Rattle.usb_line.specs.Line.{Progress, adds, IsLineRun}
 use Rattle.usb_line.proofs.MayFollow.{once}
 use Rattle.usb_line.proofs.Marked.{times-append}
@@ -92,9 +93,8 @@ module _ (s : Scene) (good : IsWellFormed s) (f : Progress) (run : IsLineRun s f
       go false is = is
       go true is =
           let near = home_below (machine_of s) v (queued_has_home (machine_of s) v h serves.legal is) in
-          let count = length-map s.urbs (home_at s) in
-          let here : v < length s.urbs = omega arith in
-          absurd (true≢false (sym is ∙ (still_queued run.killed.history (flat_map (seen_quiet (main_pass s)) urbs) v (seen_still (main_pass s) urbs) ∙ kills.out v (below_all (length s.urbs) v here))))
+          let here : v < urb_count s = omega arith in
+          absurd (true≢false (sym is ∙ (still_queued run.killed.history (flat_map (seen_quiet (main_pass s)) urbs) v (seen_still (main_pass s) urbs) ∙ kills.out v (below_all (urb_count s) v here))))
 
   is_over : IsOver s h
   is_over = record {
@@ -120,7 +120,7 @@ module _ (s : Scene) (good : IsWellFormed s) (f : Progress) (run : IsLineRun s f
     rests = kills.rests;
     before = called.history;
     behind = longer.0;
-    each = (kills.marks_each ∙ length-below (length s.urbs), kills.rests_each ∙ length-below (length s.urbs));
+    each = (kills.marks_each ∙ length-below (urb_count s), kills.rests_each ∙ length-below (urb_count s));
     main = made.own ∙ ap (λ l. l ++ (kills_of (main_pass s) urbs kills.marks kills.rests ++ flat_map (seen_quiet (main_pass s)) urbs)) no_main;
     split = longer.1;
     last = no_main;
@@ -134,7 +134,7 @@ module _ (s : Scene) (good : IsWellFormed s) (f : Progress) (run : IsLineRun s f
     legal = serves.legal;
     over = is_over;
     told = subst (All (IsMade s)) (sym made.doings) goes.told;
-    downs = subst (AreDowns false) (sym made.doings) goes.downs;
+    downs = subst (AreDowns s false) (sym made.doings) goes.downs;
     calls = λ i thread at. calls_made s last.doings (ap (map call_of) made.doings ∙ run.all) i thread at;
     threads = λ i l. made.elsewhere (pass_of s i) (not_server s i) (not_main s i l) ∙ (goes.threads i l ∙ ap (λ ds. flat_map (call_entries s) (done_by i ds)) (sym made.doings));
     closed = is_closed;

@@ -14,34 +14,36 @@ use Rattle.usb_machine.specs.declared.plain.Plain.{Plain}
 use Rattle.usb_machine.specs.History.{state_of, pending_of}
 use Rattle.usb_machine.specs.Plain.{Stands}
 use Rattle.usb_machine.proofs.Rooms.{queued_has_home}
-use Rattle.usb_xfer.specs.Direction.{asked_at}
 use Rattle.usb_xfer.specs.Replies.{Reply}
 use Rattle.usb_xfer.specs.declared.packet.Step.{Step}
 use Rattle.usb_xfer.specs.declared.packet.Step.TheVariants.{More, Waiting, Ended}
 use Rattle.usb_xfer.specs.Moved.{moved, state_by, IsOpen}
-use Rattle.usb_xfer.specs.On.{RunsOn, Stops}
+use Rattle.usb_xfer.specs.On.{Gave, RunsOn, Stops}
+use Rattle.usb_device.specs.Replied.{Replied}
 use Rattle.usb_scene.specs.declared.scene.Scene.{Scene}
 use Rattle.usb_scene.specs.WellFormed.{IsWellFormed}
 use Rattle.usb_line.specs.declared.run.EndRow.{EndRow}
 use Rattle.usb_line.specs.declared.run.LineRun.{LineRun}
 use Rattle.usb_line.specs.Script.{replies_from}
-use Rattle.usb_line.specs.Prepared.{machine_of, home, shape_at, script_of}
+use Rattle.usb_prepare.specs.Ends.{shape_at, ends_of}
+use Rattle.usb_prepare.specs.Layout.{home}
+use Rattle.usb_line.specs.Prepared.{machine_of, script_of}
 use Rattle.usb_line.specs.Run.{Giveback, is_first, rounds_at, replies_in}
 use Rattle.usb_line.specs.Line.{Progress, marked_of, replies_used, replies_had, had_after, GoesTo, IsServed, round_of, given_back, waits, over, stops}
-use Rattle.usb_line.specs.Scripted.{IsAfter}
-use Rattle.usb_line.specs.Shows.{HoldsTransfer, ShowsUrb, ShowsEnd, Shows, held, turns_left}
+use Rattle.usb_line.specs.Shows.{HoldsTransfer, ShowsUrb, ShowsEnd, ShowsDevices, Shows, held, turns_left}
 use Rattle.usb_line.specs.Back.{MayGive, GaveBack}
 use Rattle.usb_line.specs.Turned.{code_of, SameElse, TakesOut, MovedOn, FallsAsleep, FirstAwake, EndsAt, PassesBy}
 use Rattle.usb_line.proofs.MayFollow.{once}
 use Rattle.usb_line.proofs.Marked.{first_unmarked}
-use Rattle.usb_line.proofs.Asked.{asked_at_home}
-use Rattle.usb_line.proofs.Homes.{home_near}
+use Rattle.usb_prepare.proofs.Facts.{home_near}
+use Rattle.usb_line.proofs.Homes.{home_asked, home_raw}
 use Rattle.usb_line.proofs.Scripts.{length-replies}
 use Rattle.usb_line.proofs.Turns.{outcome_gated, clear_mark}
-use Rattle.usb_line.proofs.Backs.{used_own}
+use Rattle.usb_line.proofs.Backs.{used_own, used_else}
 use Rattle.usb_line.proofs.Lookups.{set_read, set_twice, each_set}
 use Rattle.usb_line.proofs.Pendings.{IsHeld, held_transfer}
-use Rattle.usb_line.proofs.Chained.{same_address, chain, goes}
+use Rattle.usb_line.proofs.Chained.{goes}
+use Rattle.usb_line.proofs.Devices.{replies_next, devices_asked}
 use Rattle.usb_line.proofs.Returned.{weight, shows_returned, falls_returned}
 
 is_ended : (step : Step) (code : Code) → Some code ≡ code_of step → step ≡ Ended code
@@ -87,28 +89,38 @@ module _ (s : Scene) (good : IsWellFormed s) (f : Progress) (run out_run on : Li
   abbrev shown : ShowsEnd s f e moves.end
   shown = old.each_end e moves.end there
 
-  asked : asked_at moves.end.shape ≡ moves.end.script.address
-  asked = subst (λ (x : Shape). asked_at x ≡ x.address) (sym shown.is) (asked_at_home s good e) ∙ sym shown.address
+  near_end : e < ends_of s
+  near_end = home_near s good u has.near
+
+  asks : slice_get run.devices.items (shape_at s e).device ≡ Some moves.device
+  asks = (λ i. slice_get (sym out.same_devices i).items (sym shown.is i).device) ∙ moves.asked
+
+  gave : Gave Replied (shape_at s e) t moves.device moves.more now moves.after
+  gave = subst (λ (x : Shape). Gave Replied x t moves.device moves.more now moves.after) shown.is moves.gave
 
   -- the replies were those that came next in the script
-  script : (moves.more ≡ replies_from (script_of s e) (replies_used s f e) n) × IsAfter moves.script (script_of s e) (replies_used s f e + n)
-  script = chain (script_of s e) moves.end.shape t moves.end.script moves.more now moves.script (replies_used s f e) moves.gave asked shown.after
+  script : moves.more ≡ replies_from (script_of s e) (replies_used s f e) n
+  script = replies_next s good f run.devices.items old.devices e near_end (home_asked s good u has.moving.own) (home_raw s good u has.moving.own) moves.device asks t now moves.more moves.after gave
 
-  address : moves.script.address ≡ moves.end.shape.address
-  address = same_address moves.end.shape t moves.end.script moves.more now moves.script moves.gave ∙ shown.address
+  devices_so : on.devices.items ≡ slice_set run.devices.items (shape_at s e).device moves.after
+  devices_so = moves.devices_so ∙ (λ i. slice_set (out.same_devices i).items (shown.is i).device moves.after)
+
+  devices_then : (k : Progress) → replies_used s k e ≡ replies_used s f e + n → ((c : ℕ) → c ≢ e → replies_used s k c ≡ replies_used s f c) → ShowsDevices s k on.devices.items
+  devices_then k here elsewhere = devices_asked s good f run.devices.items old.devices e near_end (home_asked s good u has.moving.own) (home_raw s good u has.moving.own) moves.device asks t now moves.more moves.after gave
+      k here elsewhere on.devices.items devices_so
 
   stop : Stops (shape_at s e) start (f.so_far e) moves.more now moves.step
   stop = (subst (λ (x : Shape). RunsOn x t now moves.more moves.step) shown.is moves.runs).stops start (f.so_far e) has.sent_window
       (subst (IsOpen (shape_at s e) start) had has.moving.going) (has.moving.moving ∙ ap (moved (shape_at s e) start) had)
 
   so_far : GoesTo s f e start n moves.step
-  so_far = goes s f e start now moves.more moves.step script.0 moves.runs.some stop
+  so_far = goes s f e start now moves.more moves.step script moves.runs.some stop
 
   served : IsServed s f e u start
   served = record { others = others; first = first; transfer = has.moving.sent }
 
   moved_now : now ≡ moved (shape_at s e) start (had_after s f e n)
-  moved_now = stop.transfer ∙ ap (λ l. moved (shape_at s e) start (f.so_far e ++ l)) script.0
+  moved_now = stop.transfer ∙ ap (λ l. moved (shape_at s e) start (f.so_far e ++ l)) script
 
   long : length (had_after s f e n) ≡ length (f.so_far e) + n
   long = let a = length-append (f.so_far e) (replies_from (script_of s e) (replies_used s f e) n) in let b = length-replies (script_of s e) (replies_used s f e) n in omega arith
@@ -116,8 +128,8 @@ module _ (s : Scene) (good : IsWellFormed s) (f : Progress) (run out_run on : Li
   mid_rows : on.urbs.items ≡ slice_set run.urbs.items u (record out.row { transfer = None })
   mid_rows = (λ i. (moves.same_urbs i).items) ∙ out.rows
 
-  mid_ends : on.ends.items ≡ slice_set run.ends.items e (record moves.end { script = moves.script })
-  mid_ends = moves.ends_so ∙ (λ i. slice_set (out.same_ends i).items e (record moves.end { script = moves.script }))
+  mid_ends : on.ends ≡ run.ends
+  mid_ends = moves.same_ends ∙ out.same_ends
 
   mid_same : SameElse run on
   mid_same = record { plain = moves.same.plain ∙ out.same.plain; told = moves.same.told ∙ out.same.told; host = moves.same.host ∙ out.same.host }
@@ -154,12 +166,12 @@ module _ (s : Scene) (good : IsWellFormed s) (f : Progress) (run out_run on : Li
       code = ending;
       at = served;
       goes = subst (GoesTo s f e start n) (is_ended moves.step ending (sym is ∙ moves.says)) so_far;
-      shows = shows_returned s f run old u out.row out.at moves.end there on new moves.script mid_rows mid_ends mid_same (Some ending) now back ending true start (had_after s f e n)
-          may moved_now address (subst (IsAfter moves.script (script_of s e)) (sym used) script.1);
+      shows = shows_returned s f run old u out.row out.at moves.end there on new mid_rows mid_ends mid_same (Some ending) now back ending true start (had_after s f e n)
+          may moved_now has.moving.own (devices_then (given_back s f r) used (λ c off. used_else s f r c (λ i. off (sym i))));
     }
 
     pub ended_falls : turns_left new < turns_left run
-    ended_falls = falls_returned s f run old u out.row out.at moves.end there on new moves.script mid_rows mid_ends mid_same (Some ending) now back ending true start (had_after s f e n)
+    ended_falls = falls_returned s f run old u out.row out.at moves.end there on new mid_rows mid_ends mid_same (Some ending) now back ending true start (had_after s f e n)
         may moved_now t out.is
 
   -- it waits
@@ -172,10 +184,11 @@ module _ (s : Scene) (good : IsWellFormed s) (f : Progress) (run out_run on : Li
         let same : sleeps.row ≡ record out.row { transfer = None } = set_read run.urbs.items on.urbs.items u (record out.row { transfer = None }) sleeps.row mid_rows sleeps.at in
         sleeps.rows ∙ ((λ i. slice_set (mid_rows i) u (record (same i) { transfer = Some now })) ∙ set_twice run.urbs.items u (record out.row { transfer = None }) (record out.row { transfer = Some now }))
 
-    ends : new.ends.items ≡ slice_set run.ends.items e (record moves.end { script = moves.script; asleep = true })
+    ends : new.ends.items ≡ slice_set run.ends.items e (record moves.end { asleep = true })
     ends =
-        let same : sleeps.end ≡ record moves.end { script = moves.script } = set_read run.ends.items on.ends.items e (record moves.end { script = moves.script }) sleeps.end mid_ends sleeps.there in
-        sleeps.ends_so ∙ ((λ i. slice_set (mid_ends i) e (record (same i) { asleep = true })) ∙ set_twice run.ends.items e (record moves.end { script = moves.script }) (record moves.end { script = moves.script; asleep = true }))
+        let both : Some sleeps.end ≡ Some moves.end = sym sleeps.there ∙ ((λ i. slice_get (mid_ends i).items e) ∙ there) in
+        let same : sleeps.end ≡ moves.end = cc in
+        sleeps.ends_so ∙ (λ i. slice_set (mid_ends i).items e (record (same i) { asleep = true }))
 
     here_so : m.so_far e ≡ had_after s f e n
     here_so = ap (λ b. cond b (had_after s f e n) (f.so_far e)) (eq-eqb e e refl)
@@ -201,6 +214,7 @@ module _ (s : Scene) (good : IsWellFormed s) (f : Progress) (run out_run on : Li
     holds_else v off (Some t) q = (
       q.0,
       record {
+        own = q.1.own;
         start = q.1.start;
         sent = q.1.sent;
         moving = q.1.moving ∙ ap (moved (shape_at s (home s v)) q.1.start) (sym (had_else v off));
@@ -215,6 +229,7 @@ module _ (s : Scene) (good : IsWellFormed s) (f : Progress) (run out_run on : Li
       holds = (
         has.queued,
         record {
+          own = has.moving.own;
           start = start;
           sent = has.moving.sent;
           moving = moved_now ∙ ap (moved (shape_at s e) start) (sym had_own);
@@ -223,12 +238,15 @@ module _ (s : Scene) (good : IsWellFormed s) (f : Progress) (run out_run on : Li
       );
     }
 
-    end_own : ShowsEnd s m e (record moves.end { script = moves.script; asleep = true })
+    used_here : replies_used s m e ≡ replies_used s f e + n
+    used_here = let l = long in let here = ap (λ (l : List Reply). length l) here_so in omega arith
+
+    used_else_here : (c : ℕ) → c ≢ e → replies_used s m c ≡ replies_used s f c
+    used_else_here c off = ap (λ l. length (replies_in (rounds_at s c f.rounds)) + length l) (else_so c off)
+
+    end_own : ShowsEnd s m e (record moves.end { asleep = true })
     end_own = record {
       is = shown.is;
-      address = address;
-      after = let l = long in let here = ap (λ (l : List Reply). length l) here_so in
-          let used : replies_used s f e + n ≡ replies_used s m e = omega arith in subst (IsAfter moves.script (script_of s e)) used script.1;
       sleeps = sym (ap (λ b. cond b true (f.asleep e)) (eq-eqb e e refl));
       acked = shown.acked;
     }
@@ -236,8 +254,6 @@ module _ (s : Scene) (good : IsWellFormed s) (f : Progress) (run out_run on : Li
     end_else : (d : ℕ) (end : EndRow) → d ≢ e → ShowsEnd s f d end → ShowsEnd s m d end
     end_else d end off o = record {
       is = o.is;
-      address = o.address;
-      after = subst (IsAfter end.script (script_of s d)) (ap (λ l. length (replies_in (rounds_at s d f.rounds)) + length l) (sym (else_so d off))) o.after;
       sleeps = o.sleeps ∙ sym (ap (λ b. cond b true (f.asleep d)) (ne_eqb d e off));
       acked = o.acked;
     }
@@ -255,9 +271,10 @@ module _ (s : Scene) (good : IsWellFormed s) (f : Progress) (run out_run on : Li
       stands = subst (λ (p : Plain). Stands p (machine_of s) h) (sym plain) old.stands;
       calm = old.calm;
       linked = old.linked;
+      devices = subst (λ l. ShowsDevices s m l.items) (sym sleeps.same_devices) (devices_then m used_here used_else_here);
       few_ends = old.few_ends;
-      all_ends = ap length ends ∙ (length-set run.ends.items e (record moves.end { script = moves.script; asleep = true }) ∙ old.all_ends);
-      each_end = each_set (ShowsEnd s f) (ShowsEnd s m) run.ends.items new.ends.items e (record moves.end { script = moves.script; asleep = true }) ends old.each_end end_own end_else;
+      all_ends = ap length ends ∙ (length-set run.ends.items e (record moves.end { asleep = true }) ∙ old.all_ends);
+      each_end = each_set (ShowsEnd s f) (ShowsEnd s m) run.ends.items new.ends.items e (record moves.end { asleep = true }) ends old.each_end end_own end_else;
       all_urbs = ap length rows ∙ (length-set run.urbs.items u (record out.row { transfer = Some now }) ∙ old.all_urbs);
       each_urb = each_set (ShowsUrb s f) (ShowsUrb s m) run.urbs.items new.urbs.items u (record out.row { transfer = Some now }) rows old.each_urb urb_own
           (λ v row off o. record { at = o.at; more = o.more; holds = holds_else v off row.transfer o.holds });

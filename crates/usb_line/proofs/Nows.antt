@@ -19,6 +19,7 @@ use Rattle.usb_machine.proofs.Held.{flags_are_held}
 use Rattle.usb_scene.specs.declared.scene.Scene.{Scene}
 use Rattle.usb_scene.specs.declared.scene.Call.{Call}
 use Rattle.usb_scene.specs.WellFormed.{IsCall, IsWellFormed}
+use Rattle.usb_prepare.specs.Layout.{urb_count}
 use Rattle.usb_line.specs.declared.made.Deed.{Deed}
 use Rattle.usb_line.specs.declared.made.Deed.TheVariants as deed
 use Rattle.usb_line.specs.declared.made.CallAnswer.{CallAnswer}
@@ -28,7 +29,7 @@ use Rattle.usb_line.specs.Run.{urbs_of, Doing, submit_of, deed_entries, call_ent
 use Rattle.usb_line.specs.Line.{Progress, adds, doing, submit_answer, answer_now}
 use Rattle.usb_line.proofs.Entries.{AllFollow}
 use Rattle.usb_line.proofs.MayFollow.{mark_follows, reject_follows, withdraw_follows, unflag_follows}
-use Rattle.usb_line.proofs.Homes.{has_home, home_takes, fresh_window}
+use Rattle.usb_line.proofs.Homes.{has_home, own_near, home_takes, fresh_window}
 use Rattle.usb_line.proofs.Submits.{submit_follow}
 use Rattle.usb_line.proofs.Each.{each_follow}
 use Rattle.usb_line.proofs.Held.{rejects_at, down_at}
@@ -43,14 +44,14 @@ pub record CanCall (s : Scene) (f : Progress) (i : ℕ) (c : Call) : Type 0 wher
   pub serves : Serves s f
   pub near : i < length s.threads
   pub is : IsCall s c
-  pub backed : (v : ℕ) → withdraws v (deed_of c) ≡ 1 → 0 < rejects_at v (part_of f.history (pass_of s i))
-  pub hub : is_hubs (deed_of c) ≡ true → pass_of s i ≡ HUB
-  pub flags : (v : ℕ) → v < length s.urbs → down_at v (part_of f.history HUB) ≡ f.down
+  pub backed : (v : ℕ) → withdraws v (deed_of s c) ≡ 1 → 0 < rejects_at v (part_of f.history (pass_of s i))
+  pub hub : is_hubs (deed_of s c) ≡ true → pass_of s i ≡ HUB
+  pub flags : (v : ℕ) → v < urb_count s → down_at v (part_of f.history HUB) ≡ f.down
 
 -- what a call did: the entries of its pass, and an answer of its kind
 pub record IsCalled (s : Scene) (f : Progress) (i : ℕ) (d : Doing) (m : Progress) : Type 0 where
   pub made : IsMadeBy s f (pass_of s i) (call_entries s d) m
-  pub answered : IsAnswered s d (deed_of d.call) d.answer
+  pub answered : IsAnswered s d (deed_of s d.call) d.answer
 
 -- the URB's flag is the hub's
 pub state_down : (s : Scene) (h : List Entry) (u : ℕ) (b : Bool) → IsLegal (machine_of s) h → down_at u (part_of h HUB) ≡ b → (state_of h u).flags.down ≡ b
@@ -77,7 +78,7 @@ module _ (s : Scene) (good : IsWellFormed s) (f : Progress) (i : ℕ) (c : Call)
     where
       go : (o : Option Errno) → submit_fault s u c ≡ o → AllFollow (machine_of s) h (submit_of o p u (fresh s u c) (submit_answer o (refusal (state_of h u))))
       go (Some e) is = tt
-      go None is = submit_follow s h p u (fresh s u c) there (has_home s good u near) (fresh_window s good u near c can.is.bytes) refl (home_takes s good u near c is)
+      go None is = submit_follow s h p u (fresh s u c) there (has_home s good u (own_near s good u near)) (fresh_window s good u near c can.is.bytes) refl (home_takes s good u near c is)
 
   submit_told : (u : ℕ) → IsShapeAnswer (submit_fault s u c) (submit_answer (submit_fault s u c) (refusal (state_of h u)))
   submit_told u = go (submit_fault s u c)
@@ -92,7 +93,7 @@ module _ (s : Scene) (good : IsWellFormed s) (f : Progress) (i : ℕ) (c : Call)
   up_now : p ≡ HUB → (b : Bool) → f.down ≡ b → AllFollow (machine_of s) h (entries deed.Up told.Done b)
   up_now hub false is = tt
   up_now hub true is = subst (λ p. AllFollow (machine_of s) h (map (λ u. plain_entry p (Unflag record { 0 = u } flag.Down)) (urbs_of s))) (sym hub)
-      (each_follow (λ u. plain_entry HUB (Unflag record { 0 = u } flag.Down)) (λ u. (tt, refl)) h (machine_of s) (length s.urbs)
+      (each_follow (λ u. plain_entry HUB (Unflag record { 0 = u } flag.Down)) (λ u. (tt, refl)) h (machine_of s) (urb_count s)
       (λ u l k same. unflag_follows s k u flag.Down (ap (λ (t : UrbState). t.flags.down) same ∙ state_down s h u true can.serves.legal (can.flags u l ∙ is))))
 
   -- the answers' premise, by deed
@@ -117,6 +118,7 @@ module _ (s : Scene) (good : IsWellFormed s) (f : Progress) (i : ℕ) (c : Call)
   now_follow (deed.Kill u) a e near backed hub = cc
   now_follow (deed.Poison u) a e near backed hub = cc
   now_follow deed.Serve a e near backed hub = cc
+  now_follow deed.Absent a e near backed hub = subst (λ a. AllFollow (machine_of s) h (entries deed.Absent a f.down)) (told_of _ a e) tt
   now_follow deed.Other a e near backed hub = cc
 
   now_answered : (dd : Deed) (a : CallAnswer) → answer_now s f c dd ≡ Some a → IsAnswered s (made a) dd a
@@ -127,19 +129,20 @@ module _ (s : Scene) (good : IsWellFormed s) (f : Progress) (i : ℕ) (c : Call)
   now_answered (deed.Unblock u) a e = sym (told_of _ a e)
   now_answered deed.Down a e = go f.down e
     where
-      go : (b : Bool) → cond b (Some (told.Code (Fault ESHUTDOWN))) None ≡ Some a → IsDownAnswer b a × (a ≡ told.Done → (length (made a).marks ≡ length s.urbs) × (length (made a).rests ≡ length s.urbs))
+      go : (b : Bool) → cond b (Some (told.Code (Fault ESHUTDOWN))) None ≡ Some a → IsDownAnswer b a × (a ≡ told.Done → (length (made a).marks ≡ urb_count s) × (length (made a).rests ≡ urb_count s))
       go true e = (sym (told_of _ a e), λ d. (let x = told_of _ a e ∙ d in cc))
       go false e = cc
   now_answered deed.Up a e = sym (told_of _ a e)
   now_answered (deed.Kill u) a e = cc
   now_answered (deed.Poison u) a e = cc
   now_answered deed.Serve a e = cc
+  now_answered deed.Absent a e = sym (told_of _ a e)
   now_answered deed.Other a e = cc
 
   -- a call that answers at once
-  pub now_called : (a : CallAnswer) → answer_now s f c (deed_of c) ≡ Some a → IsCalled s f i (made a) (adds f (call_entries s (made a)))
-  now_called a e = let answered = now_answered (deed_of c) a e in record {
-    made = made_entries s f p (call_entries s (made a)) (not_server s i) (entries_pass s p (made a) (deed_of c) a answered)
-        (now_follow (deed_of c) a e (deed_there s c can.is) can.backed can.hub) can.serves;
+  pub now_called : (a : CallAnswer) → answer_now s f c (deed_of s c) ≡ Some a → IsCalled s f i (made a) (adds f (call_entries s (made a)))
+  now_called a e = let answered = now_answered (deed_of s c) a e in record {
+    made = made_entries s f p (call_entries s (made a)) (not_server s i) (entries_pass s p (made a) (deed_of s c) a answered)
+        (now_follow (deed_of s c) a e (deed_there s good c can.is) can.backed can.hub) can.serves;
     answered = answered;
   }

@@ -1,7 +1,7 @@
 -- What the run's object shows of an URB that is pending.
 use Rattle.std.proofs.Common.{ℕ, ◌≡◌, ◌<◌, Bool, true, false, cond, eqb, Option, Some, None, List, length, refl, sym, ap, ◌∙◌, subst, arith, eq-eqb, true≢false}
 use Rattle.std.specs.Prelude.{slice_get, slice_set}
-use Rattle.std.proofs.lemmas.List.{length-map, length-set}
+use Rattle.std.proofs.lemmas.List.{length-set}
 use Rattle.std.proofs.lemmas.Option.{slice_get_within}
 use mathlib.Core.Logic.{dite}
 use native.Mathlib.Decide.{ℕ_discrete}
@@ -18,10 +18,13 @@ use Rattle.usb_scene.specs.declared.scene.Scene.{Scene}
 use Rattle.usb_scene.specs.WellFormed.{IsWellFormed}
 use Rattle.usb_line.specs.declared.run.UrbRow.{UrbRow}
 use Rattle.usb_line.specs.declared.run.LineRun.{LineRun}
-use Rattle.usb_line.specs.Prepared.{machine_of, home_at, home, shape_at}
+use Rattle.usb_prepare.specs.Ends.{shape_at}
+use Rattle.usb_prepare.specs.Layout.{urb_count, home}
+use Rattle.usb_line.specs.Prepared.{machine_of}
 use Rattle.usb_line.specs.Line.{Progress, replies_had}
 use Rattle.usb_line.specs.Shows.{IsMoving, HoldsTransfer, Shows}
-use Rattle.usb_line.proofs.Homes.{home_near, home_shape}
+use Rattle.usb_line.proofs.Homes.{home_shape}
+use Rattle.usb_prepare.proofs.Facts.{home_near}
 use Rattle.usb_line.proofs.Lookups.{set_read}
 use Rattle.usb_line.proofs.Scanning.{pending_known}
 
@@ -37,14 +40,14 @@ accepted_size shape t e = go (setup_fault shape.kind t.setup t.len) (eqb shape.m
 module _ (s : Scene) (f : Progress) (run : LineRun) (old : Shows s f run) where
   -- the machine has the scene's URBs and endpoints
   pub same_urbs : urbs_of run.plain ≡ length run.urbs.items
-  same_urbs = let a = old.stands.urbs in let b = length-map s.urbs (home_at s) in let c = old.all_urbs in omega arith
+  same_urbs = let a = old.stands.urbs in let c = old.all_urbs in omega arith
 
   pub same_ends : ends_of run.plain ≡ length run.ends.items
   same_ends = let a = old.stands.ends in let b = old.all_ends in omega arith
 
   -- a transfer that is held, as it was sent
   pub record IsHeld (u : ℕ) (t : Transfer) : Type 0 where
-    pub near : u < length s.urbs
+    pub near : u < urb_count s
     pub queued : (state_of f.history u).queued ≡ true
     pub moving : IsMoving s f u t
     pub sent_window : HasWindow moving.start
@@ -53,7 +56,7 @@ module _ (s : Scene) (f : Progress) (run : LineRun) (old : Shows s f run) where
 
   pub held_transfer : (u : ℕ) (row : UrbRow) (t : Transfer) → slice_get run.urbs.items u ≡ Some row → Some t ≡ row.transfer → IsHeld u t
   held_transfer u row t at is =
-      let near : u < length s.urbs = (let l = slice_get_within run.urbs.items u row at in let n = old.all_urbs in omega arith) in
+      let near : u < urb_count s = (let l = slice_get_within run.urbs.items u row at in let n = old.all_urbs in omega arith) in
       let holds = subst (HoldsTransfer s f u) (sym is) (old.each_urb u row at).holds in
       let sent = queued_is_sent (machine_of s) u f.history old.stands.legal holds.0 in
       let both = sym sent.is ∙ holds.1.sent in let same : sent.transfer ≡ holds.1.start = cc in
@@ -77,7 +80,7 @@ module _ (s : Scene) (f : Progress) (run : LineRun) (old : Shows s f run) where
   module _ (good : IsWellFormed s) where
     pub row_home : (u : ℕ) (row : UrbRow) → slice_get run.urbs.items u ≡ Some row → row.home < length run.ends.items
     row_home u row at =
-        let near : u < length s.urbs = (let l = slice_get_within run.urbs.items u row at in let n = old.all_urbs in omega arith) in
+        let near : u < urb_count s = (let l = slice_get_within run.urbs.items u row at in let n = old.all_urbs in omega arith) in
         let l = home_near s good u near in let same = (old.each_urb u row at).at in let n = old.all_ends in omega arith
 
     pub held_size : (u : ℕ) (t : Transfer) → IsHeld u t → 0 < (shape_at s (home s u)).max

@@ -1,5 +1,5 @@
 -- An URB that came back, as the run's object shows it.
-use Rattle.std.proofs.Common.{ℕ, ◌≡◌, ◌+◌, ◌-◌, ◌<◌, Bool, true, false, cond, Option, Some, None, List, [], ◌∷◌, ◌++◌, refl, sym, ap, ◌∙◌, subst, arith}
+use Rattle.std.proofs.Common.{ℕ, ◌≡◌, ◌+◌, ◌-◌, ◌<◌, Bool, true, false, cond, Option, Some, None, List, [], ◌∷◌, ◌++◌, length, refl, sym, ap, ◌∙◌, subst, arith}
 use Rattle.std.specs.Prelude.{slice_get, slice_set, sum_by, nat_lt}
 use Rattle.std.proofs.lemmas.List.Sums.{sum_by-set}
 use Rattle.std.proofs.lemmas.Option.{slice_get_within, get_or_from_slice_get}
@@ -18,13 +18,13 @@ use Rattle.usb_line.specs.declared.made.Outcome.TheVariants as outcome
 use Rattle.usb_line.specs.declared.run.UrbRow.{UrbRow}
 use Rattle.usb_line.specs.declared.run.EndRow.{EndRow}
 use Rattle.usb_line.specs.declared.run.LineRun.{LineRun}
-use Rattle.usb_line.specs.declared.script.EndScript.{EndScript}
-use Rattle.usb_line.specs.Prepared.{machine_of, home, shape_at, script_of, again_of}
+use Rattle.usb_prepare.specs.Ends.{shape_at}
+use Rattle.usb_prepare.specs.Layout.{home}
+use Rattle.usb_line.specs.Prepared.{machine_of, again_of}
 use Rattle.usb_line.specs.Run.{Giveback, moved_in, given_entries, giveback_entries, times_back, acts_again}
-use Rattle.usb_line.specs.Line.{Progress, replies_used, outcome_at, round_of, given_back}
-use Rattle.usb_line.specs.Scripted.{IsAfter}
+use Rattle.usb_line.specs.Line.{Progress, outcome_at, round_of, given_back}
 use Rattle.usb_line.specs.Given.{given_of, brought_bytes, sent_bytes}
-use Rattle.usb_line.specs.Shows.{Shows, held, turns_left}
+use Rattle.usb_line.specs.Shows.{ShowsDevices, Shows, held, turns_left}
 use Rattle.usb_line.specs.Back.{Adds, MayGive, is_again, left_by, row_back, GaveBack}
 use Rattle.usb_line.specs.Turned.{SameElse}
 use Rattle.usb_line.proofs.Moves.{moved_same}
@@ -55,8 +55,8 @@ abbrev pub weight : UrbRow → ℕ
 weight row = row.again + held row.transfer
 
 module _ (s : Scene) (f : Progress) (run : LineRun) (old : Shows s f run) (u : ℕ) (row : UrbRow) (at : slice_get run.urbs.items u ≡ Some row) (end : EndRow) (there : slice_get run.ends.items (home s u) ≡ Some end)
-    (mid new : LineRun) (script : EndScript) (mid_rows : mid.urbs.items ≡ slice_set run.urbs.items u (record row { transfer = None }))
-    (mid_ends : mid.ends.items ≡ slice_set run.ends.items (home s u) (record end { script = script })) (mid_same : SameElse run mid)
+    (mid new : LineRun) (mid_rows : mid.urbs.items ≡ slice_set run.urbs.items u (record row { transfer = None }))
+    (mid_ends : mid.ends ≡ run.ends) (mid_same : SameElse run mid)
     (by : Option Code) (now : Transfer) (back : GaveBack mid new u by now) (status : Code) (finished : Bool) (start : Transfer) (replies : List Reply) where
   abbrev r : Giveback
   r = round_of s f u status finished start replies
@@ -70,8 +70,8 @@ module _ (s : Scene) (f : Progress) (run : LineRun) (old : Shows s f run) (u : �
   row_again : back.row.again ≡ again_of s u - times_back u f.rounds
   row_again = ap (λ (x : UrbRow). x.again) mid_row ∙ (old.each_urb u row at).more
 
-  mid_end : back.end ≡ record end { script = script }
-  mid_end = set_read run.ends.items mid.ends.items (home s u) (record end { script = script }) back.end mid_ends (ap (slice_get mid.ends.items) (sym row_home) ∙ back.there)
+  mid_end : back.end ≡ end
+  mid_end = let both : Some back.end ≡ Some end = sym back.there ∙ ((λ i. slice_get (mid_ends i).items (row_home i)) ∙ there) in cc
 
   acts : is_again r.outcome ≡ nat_lt 0 back.row.again
   acts = acts_as s f u status finished ∙ (more_left (again_of s u) (times_back u f.rounds) ∙ ap (nat_lt 0) (sym row_again))
@@ -84,9 +84,8 @@ module _ (s : Scene) (f : Progress) (run : LineRun) (old : Shows s f run) (u : �
     rows : new.urbs.items ≡ slice_set run.urbs.items u (row_back back.did now back.row)
     rows = back.rows ∙ (ap (λ xs. slice_set xs u (row_back back.did now back.row)) mid_rows ∙ set_twice run.urbs.items u (record row { transfer = None }) (row_back back.did now back.row))
 
-    ends : new.ends.items ≡ slice_set run.ends.items (home s u) (record end { script = script; received = back.received })
-    ends = back.ends_so ∙ ((λ i. slice_set (mid_ends i) (row_home i) (record (mid_end i) { received = back.received }))
-        ∙ set_twice run.ends.items (home s u) (record end { script = script }) (record end { script = script; received = back.received }))
+    ends : new.ends.items ≡ slice_set run.ends.items (home s u) (record end { received = back.received })
+    ends = back.ends_so ∙ (λ i. slice_set (mid_ends i).items (row_home i) (record (mid_end i) { received = back.received }))
 
     shape : back.end.shape ≡ shape_at s (home s u)
     shape = ap (λ (x : EndRow). x.shape) mid_end ∙ (old.each_end (home s u) end there).is
@@ -95,11 +94,11 @@ module _ (s : Scene) (f : Progress) (run : LineRun) (old : Shows s f run) (u : �
     told = back.told ∙ (λ i. mid_same.told i ++ record { urb = u; status = done.0 i; actual = (is i).actual; outcome = done.1 i; bytes = brought_bytes (shape i) (is i) } ∷ [])
 
     -- the object shows the progress with the giveback
-    pub shows_returned : script.address ≡ end.shape.address → IsAfter script (script_of s (home s u)) (replies_used s (given_back s f r) (home s u)) → Shows s (given_back s f r) new
-    shows_returned address after = shows_back s f r run new old done.2
-        (row_back back.did now back.row) rows (urb_own s f r back.row now back.did row_home row_again is done.1)
-        (record end { script = script; received = back.received }) ends
-        (end_own s f r end now back.received (old.each_end (home s u) end there) script address after is (subst (λ (x : EndRow). Adds x.received back.received (sent_bytes x.shape now)) mid_end back.more))
+    pub shows_returned : u < length s.urbs → ShowsDevices s (given_back s f r) mid.devices.items → Shows s (given_back s f r) new
+    shows_returned near devices = shows_back s f r run new old done.2 (subst (λ l. ShowsDevices s (given_back s f r) l.items) (sym back.same_devices) devices)
+        (row_back back.did now back.row) rows (urb_own s f r near back.row now back.did row_home row_again is done.1)
+        (record end { received = back.received }) ends
+        (end_own s f r end now back.received (old.each_end (home s u) end there) is (subst (λ (x : EndRow). Adds x.received back.received (sent_bytes x.shape now)) mid_end back.more))
         told (back.host ∙ mid_same.host)
 
     -- and fewer turns are left

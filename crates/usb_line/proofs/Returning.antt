@@ -21,7 +21,9 @@ use Rattle.usb_xfer.specs.Moved.{IsWhole}
 use Rattle.usb_scene.specs.declared.scene.Scene.{Scene}
 use Rattle.usb_line.specs.declared.made.Outcome.{Outcome}
 use Rattle.usb_line.specs.declared.made.Outcome.TheVariants as outcome
-use Rattle.usb_line.specs.Prepared.{machine_of, home, shape_at, script_of}
+use Rattle.usb_prepare.specs.Ends.{shape_at}
+use Rattle.usb_prepare.specs.Layout.{home}
+use Rattle.usb_line.specs.Prepared.{machine_of, script_of}
 use Rattle.usb_line.specs.Run.{Giveback, moved_in, resent, handled_by, given_entries, giveback_entries, episode_of, is_aside, is_first, acts_again, IsGiveback, IsHandled, AreHandled, rounds_at, replies_in, firsts_of, firsts_after}
 use Rattle.usb_line.specs.Line.{Progress, with_at, given_back}
 use Rattle.usb_line.proofs.Entries.{grows, legal_after}

@@ -3,7 +3,7 @@ use Rattle.std.proofs.Common.{ℕ, zero, suc, ◌≡◌, ◌+◌, ◌<◌, true,
 use Rattle.std.specs.Prelude.{slice_get}
 use Rattle.std.specs.List.{All}
 use Rattle.std.proofs.lemmas.List.{map-append}
-use Rattle.std.proofs.lemmas.List.Elements.{All-head, All-tail, filter-append}
+use Rattle.std.proofs.lemmas.List.Elements.{All-nil, All-cons, All-head, All-tail, filter-append}
 use Rattle.usb_scene.specs.declared.scene.Scene.{Scene}
 use Rattle.usb_scene.specs.declared.scene.SceneThread.{SceneThread}
 use Rattle.usb_scene.specs.declared.scene.Call.{Call}
@@ -82,3 +82,8 @@ next_call s doings i c rest all thread at =
 pub All-middle : {X : Type 0} (P : X → Type 0) (before : List X) (x : X) (behind : List X) → All P (before ++ x ∷ behind) → P x
 All-middle P [] x behind a = All-head P x behind a
 All-middle P (y ∷ before) x behind a = All-middle P before x behind (All-tail P y (before ++ x ∷ behind) a)
+
+-- and of each before it
+pub All-front : {X : Type 0} (P : X → Type 0) (front back : List X) → All P (front ++ back) → All P front
+All-front P [] back a = All-nil P
+All-front P (y ∷ front) back a = All-cons P y front (All-head P y (front ++ back) a) (All-front P front back (All-tail P y (front ++ back) a))

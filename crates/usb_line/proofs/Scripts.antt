@@ -2,7 +2,8 @@
 use Rattle.std.proofs.Common.{ℕ, zero, suc, ◌≡◌, ◌+◌, ◌≤◌, List, [], ◌∷◌, ◌++◌, length, take, refl, sym, ap, ◌∙◌, arith, length-append}
 use Rattle.std.proofs.Math.Seq.{take-append_seam}
 use Rattle.usb_xfer.specs.Replies.{Reply}
-use Rattle.usb_line.specs.Script.{Script, reply_of, replies_from}
+use Rattle.usb_device.specs.Items.{Script, reply_of}
+use Rattle.usb_line.specs.Script.{replies_from}
 
 take-zero : (l : List Reply) → take 0 l ≡ []
 take-zero [] = refl

@@ -15,7 +15,8 @@ use Rattle.usb_xfer.specs.Replies.{Reply}
 use Rattle.usb_xfer.specs.Moved.{IsWhole}
 use Rattle.usb_scene.specs.declared.scene.Scene.{Scene}
 use Rattle.usb_line.specs.Script.{replies_from}
-use Rattle.usb_line.specs.Prepared.{machine_of, ends_of, shape_at, script_of}
+use Rattle.usb_prepare.specs.Ends.{ends_of, shape_at}
+use Rattle.usb_line.specs.Prepared.{machine_of, script_of}
 use Rattle.usb_line.specs.Run.{Giveback, giveback_entries, episode_of, is_aside, IsGiveback, AreHandled, rounds_at, replies_in, firsts_of}
 use Rattle.usb_line.specs.Line.{Progress, takes, takes_below, with_takes, had_after, replies_used, waits}
 use Rattle.usb_line.proofs.Entries.{grows, legal_after}

@@ -1,5 +1,5 @@
 -- The run's object behind entries that move no URB, behind a call, and once its endpoints are woken.
-use Rattle.std.proofs.Common.{ℕ, ◌≡◌, Bool, cond, Option, Some, None, List, [], ◌++◌, sym, ap, ◌∙◌, subst}
+use Rattle.std.proofs.Common.{ℕ, ◌≡◌, Bool, cond, Option, Some, None, List, [], ◌++◌, sym, ap, ◌∙◌, subst, refl}
 use Rattle.usb_machine.specs.declared.transfer.Transfer.{Transfer}
 use Rattle.usb_machine.specs.declared.entry.Entry.{Entry}
 use Rattle.usb_machine.specs.declared.plain.Plain.{Plain}
@@ -7,13 +7,16 @@ use Rattle.usb_machine.specs.Plain.{Stands}
 use Rattle.usb_xfer.specs.Moved.{moved, IsOpen}
 use Rattle.usb_scene.specs.declared.scene.Scene.{Scene}
 use Rattle.usb_line.specs.declared.run.LineRun.{LineRun}
-use Rattle.usb_line.specs.Prepared.{machine_of, home, shape_at, deed_of}
+use Rattle.usb_prepare.specs.Ends.{shape_at}
+use Rattle.usb_prepare.specs.Layout.{home}
+use Rattle.usb_line.specs.Prepared.{machine_of, deed_of}
 use Rattle.usb_line.specs.Run.{Doing, is_first, down_after}
 use Rattle.usb_line.specs.Line.{Progress, adds, replies_had, with_doing}
 use Rattle.usb_line.specs.Shows.{IsMoving, HoldsTransfer, Shows}
 use Rattle.usb_line.proofs.Stills.{AreStill, stills_pending, stills_sent}
 use Rattle.usb_line.proofs.Calm.{calm_still, linked_still}
 use Rattle.usb_line.proofs.Closing.{still_queued}
+use Rattle.usb_line.proofs.Devices.{devices_same}
 
 module _ (s : Scene) (f : Progress) (xs : List Entry) (still : AreStill xs) where
   abbrev k : Progress
@@ -24,6 +27,7 @@ module _ (s : Scene) (f : Progress) (xs : List Entry) (still : AreStill xs) wher
 
   moving_still : (u : ℕ) (t : Transfer) → IsMoving s f u t → IsMoving s k u t
   moving_still u t m = record {
+    own = m.own;
     start = m.start;
     sent = stills_sent f.history xs still u ∙ m.sent;
     moving = m.moving ∙ ap (moved (shape_at s (home s u)) m.start) (sym (had_still u));
@@ -40,9 +44,10 @@ module _ (s : Scene) (f : Progress) (xs : List Entry) (still : AreStill xs) wher
     stands = stands;
     calm = calm_still f.history xs still old.calm;
     linked = linked_still f.history xs still old.linked;
+    devices = devices_same s f k run.devices.items (λ e. refl) old.devices;
     few_ends = old.few_ends;
     all_ends = old.all_ends;
-    each_end = λ e end at. (let o = old.each_end e end at in record { is = o.is; address = o.address; after = o.after; sleeps = o.sleeps; acked = o.acked });
+    each_end = λ e end at. (let o = old.each_end e end at in record { is = o.is; sleeps = o.sleeps; acked = o.acked });
     all_urbs = old.all_urbs;
     each_urb = λ u row at. (let o = old.each_urb u row at in record { at = o.at; more = o.more; holds = holds_still u row.transfer o.holds });
     unmoved = λ e none. old.unmoved e (sym (stills_pending f.history xs still (machine_of s) e) ∙ none);
@@ -53,17 +58,18 @@ module _ (s : Scene) (f : Progress) (xs : List Entry) (still : AreStill xs) wher
 module _ (s : Scene) (f : Progress) (run : LineRun) (old : Shows s f run) where
   holds_called : (d : Doing) (u : ℕ) (o : Option Transfer) → HoldsTransfer s f u o → HoldsTransfer s (with_doing s f d) u o
   holds_called d u None q = q
-  holds_called d u (Some t) q = (q.0, record { start = q.1.start; sent = q.1.sent; moving = q.1.moving; going = q.1.going })
+  holds_called d u (Some t) q = (q.0, record { own = q.1.own; start = q.1.start; sent = q.1.sent; moving = q.1.moving; going = q.1.going })
 
   -- a call that is counted changes no more than whether the host is down
-  pub shows_called : (d : Doing) (b : Bool) → b ≡ down_after f.down (deed_of d.call) d.answer → Shows s (with_doing s f d) (record run { down = b })
+  pub shows_called : (d : Doing) (b : Bool) → b ≡ down_after f.down (deed_of s d.call) d.answer → Shows s (with_doing s f d) (record run { down = b })
   shows_called d b is = record {
     stands = old.stands;
     calm = old.calm;
     linked = old.linked;
+    devices = devices_same s f (with_doing s f d) run.devices.items (λ e. refl) old.devices;
     few_ends = old.few_ends;
     all_ends = old.all_ends;
-    each_end = λ e end at. (let o = old.each_end e end at in record { is = o.is; address = o.address; after = o.after; sleeps = o.sleeps; acked = o.acked });
+    each_end = λ e end at. (let o = old.each_end e end at in record { is = o.is; sleeps = o.sleeps; acked = o.acked });
     all_urbs = old.all_urbs;
     each_urb = λ u row at. (let o = old.each_urb u row at in record { at = o.at; more = o.more; holds = holds_called d u row.transfer o.holds });
     unmoved = old.unmoved;

@@ -14,9 +14,11 @@ use Rattle.usb_machine.specs.Plain.{Stands}
 use Rattle.usb_machine.specs.Calls.{plain_entry, mark_entry, marks_of, claim_entries}
 use Rattle.usb_scene.specs.declared.scene.Scene.{Scene}
 use Rattle.usb_scene.specs.WellFormed.{IsWellFormed}
+use Rattle.usb_prepare.specs.Layout.{urb_count}
 use Rattle.usb_line.specs.declared.run.LineRun.{LineRun}
 use Rattle.usb_line.specs.Prepared.{machine_of}
-use Rattle.usb_line.specs.Run.{below, urbs_of}
+use Rattle.usb_prepare.specs.Below.{below}
+use Rattle.usb_line.specs.Run.{urbs_of}
 use Rattle.usb_line.specs.Line.{Progress, adds, ClaimsEach, one, all_flagged, shut_marks, shutting}
 use Rattle.usb_line.specs.Shows.{Shows}
 use Rattle.usb_line.specs.Calls.{Waited, IsShut, Claimed}
@@ -35,11 +37,11 @@ pub hub_there : (s : Scene) → HUB < 2 + (length s.threads + 1)
 hub_there s = omega arith
 
 -- an URB was waited for
-module _ (s : Scene) (f : Progress) (n : ℕ) (run : LineRun) (at : Claimed s f n run) (near : n < length s.urbs) (now : LineRun) (w : Waited s at.far n now) where
+module _ (s : Scene) (f : Progress) (n : ℕ) (run : LineRun) (at : Claimed s f n run) (near : n < urb_count s) (now : LineRun) (w : Waited s at.far n now) where
   pub claim_quiet : ((state_of w.far.history n).queued ≡ false) × ((state_of w.far.history n).handlers ≡ 0)
   claim_quiet = wait_quiet s n at.far w.far w.waits
 
-  down_then : (v : ℕ) → v < length s.urbs → (held_of (part_of w.far.history HUB) v).flags.down ≡ true
+  down_then : (v : ℕ) → v < urb_count s → (held_of (part_of w.far.history HUB) v).flags.down ≡ true
   down_then v l = ap (λ m. (held_of m v).flags.down) ((wait_turned s n at.far w.far w.waits).parts HUB hub_other) ∙ at.is.flagged v l
 
   pub claim_holds : holds_any (held_of (part_of w.far.history HUB) n) ≡ true
@@ -75,7 +77,7 @@ module _ (s : Scene) (good : IsWellFormed s) (f : Progress) (run : LineRun) (old
   abbrev marks : List Entry
   marks = marks_of HUB Shutdown (urbs_of s) (shut_marks s HUB f)
 
-  pub shows_shut : (n : ℕ) (middle after : Plain) → n ≡ length s.urbs → Stands middle (machine_of s) (f.history ++ map (λ u. plain_entry HUB (Flag record { 0 = u } flag.Down)) (below n))
+  pub shows_shut : (n : ℕ) (middle after : Plain) → n ≡ urb_count s → Stands middle (machine_of s) (f.history ++ map (λ u. plain_entry HUB (Flag record { 0 = u } flag.Down)) (below n))
       → ((h : List Entry) → Stands middle (machine_of s) h → Stands after (machine_of s) (h ++ map (λ u. mark_entry HUB Shutdown u (unlinking (state_of h u))) (below n)))
       → IsShut s (shutting s HUB f) (record run { plain = after })
   shows_shut n middle after all flagged marked =
@@ -92,5 +94,5 @@ module _ (s : Scene) (good : IsWellFormed s) (f : Progress) (run : LineRun) (old
             ap (λ m. (held_of m u).flags.down) (grows HUB at marks (marks_pass HUB Shutdown (urbs_of s) (shut_marks s HUB f)))
             ∙ (ap (λ (f : Flags). f.down) (no_flag u (part_of at HUB) marks (marks_no_flag HUB Shutdown (urbs_of s) (shut_marks s HUB f)))
             ∙ (ap (λ m. (held_of m u).flags.down) (grows HUB f.history flags (flags_pass HUB flag.Down (urbs_of s)))
-            ∙ all_flags u (part_of f.history HUB) HUB (length s.urbs) l));
+            ∙ all_flags u (part_of f.history HUB) HUB (urb_count s) l));
       }

@@ -19,7 +19,9 @@ use Rattle.usb_machine.specs.Calls.{entry, plain_entry}
 use Rattle.usb_scene.specs.declared.scene.Scene.{Scene}
 use Rattle.usb_line.specs.declared.made.Outcome.{Outcome}
 use Rattle.usb_line.specs.declared.made.Outcome.TheVariants as outcome
-use Rattle.usb_line.specs.Prepared.{machine_of, home, shape_at}
+use Rattle.usb_prepare.specs.Ends.{shape_at}
+use Rattle.usb_prepare.specs.Layout.{home}
+use Rattle.usb_line.specs.Prepared.{machine_of}
 use Rattle.usb_line.specs.Run.{Giveback, moved_in, resent, handled_by, given_entries}
 use Rattle.usb_line.specs.Back.{CanGive, finish_entries, given_after, acted_entries, is_again}
 use Rattle.usb_line.proofs.Moves.{moved_same}

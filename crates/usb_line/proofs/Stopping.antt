@@ -1,5 +1,5 @@
 -- An URB whose gate is closed and that was unlinked comes back, and is not queued again.
-use Rattle.std.proofs.Common.{ℕ, ◌≡◌, ◌+◌, ◌<◌, Bool, true, false, cond, eqb, Option, List, [], ◌∷◌, ◌++◌, length, refl, sym, ap, ◌∙◌, subst, arith, ne_eqb, true≢false}
+use Rattle.std.proofs.Common.{ℕ, ◌≡◌, ◌+◌, ◌<◌, Bool, true, false, cond, eqb, Option, List, [], ◌∷◌, ◌++◌, refl, sym, ap, ◌∙◌, subst, arith, ne_eqb, true≢false}
 use mathlib.Core.Logic.{dite}
 use native.Mathlib.Decide.{ℕ_discrete}
 use Rattle.usb_types.specs.declared.errno.Errno.TheVariants.{EBUSY, ENODEV, EPERM, ENOENT, ESHUTDOWN, EIDRM, EINPROGRESS}
@@ -25,7 +25,9 @@ use Rattle.usb_xfer.specs.Replies.{Reply}
 use Rattle.usb_scene.specs.declared.scene.Scene.{Scene}
 use Rattle.usb_line.specs.declared.made.Outcome.{Outcome}
 use Rattle.usb_line.specs.declared.made.Outcome.TheVariants as outcome
-use Rattle.usb_line.specs.Prepared.{machine_of, ends_of, home}
+use Rattle.usb_prepare.specs.Ends.{ends_of}
+use Rattle.usb_prepare.specs.Layout.{urb_count, home}
+use Rattle.usb_line.specs.Prepared.{machine_of}
 use Rattle.usb_line.specs.Run.{urbs_of, Giveback, given_entries, giveback_entries, acts_again, moved_in}
 use Rattle.usb_line.specs.Line.{Progress, takes_below, with_takes, is_unlinked, marked_of, had_after, round_of, replies_had, Gives, unlinked, ended, IsIdle, woken, StaysLoud, begins, goes_on, WaitsFor, already, turns, killing, all_flagged, shutting}
 use Rattle.usb_line.specs.Steps.{IsStopping}
@@ -166,13 +168,13 @@ module _ (f : Progress) (calm : IsCalm f.history) (p : ℕ) where
       (stop_marked (record (state_of f.history u) { rejects = (state_of f.history u).rejects + 1 }) (calm u).mark Kill (shut_reject (state_of f.history u)))
 
   -- and so are all once the host was flagged down and they were marked
-  pub stop_shutting : (s : Scene) (u : ℕ) → u < length s.urbs → IsStopping (state_of (shutting s p f).history u)
+  pub stop_shutting : (s : Scene) (u : ℕ) → u < urb_count s → IsStopping (state_of (shutting s p f).history u)
   stop_shutting s u near =
       let h : List Entry = (all_flagged s p f).history in
       let answer : ℕ → Code = λ u. unlinking (state_of h u) in
       let at : state_of h u ≡ record (state_of f.history u) { flags = record (state_of f.history u).flags { down = true } }
-      = each_at (λ u. plain_entry p (Flag record { 0 = u } flag.Down)) (λ u. (tt, refl)) f.history (length s.urbs) u near in
+      = each_at (λ u. plain_entry p (Flag record { 0 = u } flag.Down)) (λ u. (tt, refl)) f.history (urb_count s) u near in
       subst (λ xs. IsStopping (state_of (h ++ xs) u)) (sym (marks_by p Shutdown answer (urbs_of s)))
-      (subst IsStopping (sym (each_at (λ u. mark_entry p Shutdown u (answer u)) (λ u. (tt, refl)) h (length s.urbs) u near))
+      (subst IsStopping (sym (each_at (λ u. mark_entry p Shutdown u (answer u)) (λ u. (tt, refl)) h (urb_count s) u near))
       (subst (λ (t : UrbState). IsStopping (after (Mark record { 0 = u } Shutdown) (Status (unlinking t)) t)) (sym at)
       (stop_marked (record (state_of f.history u) { flags = record (state_of f.history u).flags { down = true } }) (calm u).mark Shutdown (shut_down (state_of f.history u)))))

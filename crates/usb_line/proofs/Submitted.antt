@@ -20,14 +20,17 @@ use Rattle.usb_line.specs.declared.run.LineRun.{LineRun}
 use Rattle.usb_line.specs.declared.made.Deed.{Deed}
 use Rattle.usb_line.specs.declared.made.Deed.TheVariants as deed
 use Rattle.usb_line.specs.declared.made.CallAnswer.TheVariants as told
-use Rattle.usb_line.specs.Prepared.{machine_of, home, shape_at, shapes_of, len_in, short_in, buffer_of, fresh, submit_fault, pass_of, deed_of}
+use Rattle.usb_prepare.specs.Ends.{shape_at, shapes_of}
+use Rattle.usb_prepare.specs.Layout.{home}
+use Rattle.usb_line.specs.Prepared.{machine_of, len_in, short_in, buffer_of, fresh, submit_fault, pass_of, deed_of}
 use Rattle.usb_line.specs.Run.{submit_of, deed_entries, down_after}
 use Rattle.usb_line.specs.Line.{Progress, adds, doing, answer_now, submit_answer, at_once}
 use Rattle.usb_line.specs.Shows.{Shows}
 use Rattle.usb_line.specs.Calls.{MayMake, Made}
 use Rattle.usb_line.specs.Sent.{sent_by, MaySend, Sent}
 use Rattle.usb_line.proofs.Stills.{AreStill}
-use Rattle.usb_line.proofs.Homes.{has_home, home_near, home_takes, fresh_window}
+use Rattle.usb_line.proofs.Homes.{has_home, own_near, home_takes, fresh_window}
+use Rattle.usb_prepare.proofs.Facts.{home_near}
 use Rattle.usb_line.proofs.Showing.{shows_called}
 use Rattle.usb_line.proofs.Calling.{can, there, is_there, near_plain, made_now}
 
@@ -39,13 +42,13 @@ module _ (s : Scene) (f : Progress) (i : ℕ) (c : Call) (run : LineRun) (p u : 
   few_bytes = (can s f i c run p (deed.Submit u) may).is.bytes
 
   pub row_near : u < length run.urbs.items
-  row_near = subst (λ n. u < n) (sym may.shows.all_urbs) near
+  row_near = subst (λ n. u < n) (sym may.shows.all_urbs) (own_near s may.good u near)
 
   pub end_near : (row : UrbRow) → slice_get run.urbs.items u ≡ Some row → row.home < length run.ends.items
-  end_near row at = subst (λ n. row.home < n) (sym may.shows.all_ends) (subst (λ (e : ℕ). e < length (shapes_of s)) (sym (may.shows.each_urb u row at).at) (home_near s may.good u near))
+  end_near row at = subst (λ n. row.home < n) (sym may.shows.all_ends) (subst (λ (e : ℕ). e < length (shapes_of s)) (sym (may.shows.each_urb u row at).at) (home_near s may.good u (own_near s may.good u near)))
 
   pub known : u < length run.plain.states.items
-  known = near_plain s f i c run p (deed.Submit u) may u near
+  known = near_plain s f i c run p (deed.Submit u) may u (own_near s may.good u near)
 
   module _ (urb : SceneUrb) (is : slice_get s.urbs u ≡ Some urb) where
     pub fresh_is : fresh s u c ≡ sent_by urb c
@@ -71,7 +74,7 @@ module _ (s : Scene) (f : Progress) (i : ℕ) (c : Call) (run : LineRun) (p u : 
       near = near;
       ask = record {
         there = there s f i c run p (deed.Submit u) may;
-        has = has_home s may.good u near;
+        has = has_home s may.good u (own_near s may.good u near);
         window = subst HasWindow (sym is) (fresh_window s may.good u near c few_bytes);
         unmoved = ap (λ (t : Transfer). t.actual) is;
         taken = subst (Accepts (slice_get (shapes_of s) (home s u))) (sym is) (home_takes s may.good u near c none);
@@ -80,7 +83,7 @@ module _ (s : Scene) (f : Progress) (i : ℕ) (c : Call) (run : LineRun) (p u : 
 
     pub made_sent : (code : Code) (now : LineRun) → Sent s f p u t code now → Made s f i c (told.Code code) now
     made_sent code now sent =
-        let xs : List Entry = deed_entries s (pass_of s i) c (deed_of c) (told.Code code) [] [] f.down in
+        let xs : List Entry = deed_entries s (pass_of s i) c (deed_of s c) (told.Code code) [] [] f.down in
         let same : submit_entries p u t code ≡ xs
         = ap (λ t. submit_entries p u t code) is ∙ (ap (λ o. submit_of o p u (fresh s u c) code) (sym none) ∙ (λ j. deed_entries s (sym may.pass j) c (sym may.does j) (told.Code code) [] [] f.down)) in
         let shows : Shows s (adds f xs) now = subst (λ xs. Shows s (adds f xs) now) same sent.shows in

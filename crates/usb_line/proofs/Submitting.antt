@@ -1,5 +1,5 @@
 -- What a submit does to what the run's object keeps.
-use Rattle.std.proofs.Common.{ℕ, ◌≡◌, ◌≢◌, ◌+◌, Bool, true, false, ◌&&◌, cond, eqb, Option, Some, None, List, [], ◌∷◌, ◌++◌, length, refl, sym, ap, ◌∙◌, subst, arith, eq-eqb, ne_eqb}
+use Rattle.std.proofs.Common.{ℕ, ◌≡◌, ◌≢◌, ◌+◌, ◌<◌, Bool, true, false, ◌&&◌, cond, eqb, Option, Some, None, List, [], ◌∷◌, ◌++◌, length, refl, sym, ap, ◌∙◌, subst, arith, eq-eqb, ne_eqb}
 use Rattle.std.specs.Prelude.{slice_get}
 use Rattle.std.proofs.lemmas.List.{length-set}
 use mathlib.Core.Logic.{dite}
@@ -23,11 +23,14 @@ use Rattle.usb_xfer.specs.Moved.{moved, IsOpen}
 use Rattle.usb_scene.specs.declared.scene.Scene.{Scene}
 use Rattle.usb_line.specs.declared.run.UrbRow.{UrbRow}
 use Rattle.usb_line.specs.declared.run.LineRun.{LineRun}
-use Rattle.usb_line.specs.Prepared.{machine_of, home, shape_at}
+use Rattle.usb_prepare.specs.Ends.{shape_at}
+use Rattle.usb_prepare.specs.Layout.{home}
+use Rattle.usb_line.specs.Prepared.{machine_of}
 use Rattle.usb_line.specs.Run.{is_first}
 use Rattle.usb_line.specs.Line.{Progress, adds, replies_had}
-use Rattle.usb_line.specs.Shows.{HoldsTransfer, ShowsUrb, Shows}
+use Rattle.usb_line.specs.Shows.{HoldsTransfer, ShowsUrb, ShowsDevices, Shows}
 use Rattle.usb_line.specs.Sent.{MaySend, Sent, Keeps}
+use Rattle.usb_line.proofs.Devices.{devices_same}
 use Rattle.usb_line.proofs.Submits.{submit_state, submit_other, submit_pending, submit_sent}
 use Rattle.usb_line.proofs.Calm.{calm_submit, linked_submit, calm_places}
 use Rattle.usb_line.proofs.Backs.{nothing_moved}
@@ -69,6 +72,7 @@ module _ (s : Scene) (f : Progress) (run : LineRun) (old : Shows s f run) (p u :
     holds_same (Some t) q = (
       ap (λ (t : UrbState). t.queued) state ∙ q.0,
       record {
+        own = q.1.own;
         start = q.1.start;
         sent = sent ∙ q.1.sent;
         moving = q.1.moving ∙ ap (moved (shape_at s (home s v)) q.1.start) (sym (had_same v));
@@ -84,14 +88,15 @@ module _ (s : Scene) (f : Progress) (run : LineRun) (old : Shows s f run) (p u :
 
   -- the object shows the progress with the submit
   shows_sent : (now : LineRun) → Stands now.plain (machine_of s) k.history → now.ends ≡ run.ends → length now.urbs.items ≡ length run.urbs.items
-      → ((v : ℕ) (row : UrbRow) → slice_get now.urbs.items v ≡ Some row → ShowsUrb s k v row) → now.given ≡ run.given → now.down ≡ run.down → Shows s k now
-  shows_sent now stands ends count urbs given down = record {
+      → ((v : ℕ) (row : UrbRow) → slice_get now.urbs.items v ≡ Some row → ShowsUrb s k v row) → now.devices ≡ run.devices → now.given ≡ run.given → now.down ≡ run.down → Shows s k now
+  shows_sent now stands ends count urbs devices given down = record {
     stands = stands;
     calm = calm_submit s h p u t c old.calm;
     linked = linked_submit s h p u t c old.linked;
+    devices = subst (λ l. ShowsDevices s k l.items) (sym devices) (devices_same s f k run.devices.items (λ e. refl) old.devices);
     few_ends = old.few_ends;
     all_ends = ap (λ v. length v.items) ends ∙ old.all_ends;
-    each_end = λ e end at. (let o = old.each_end e end (ap (λ v. slice_get v.items e) (sym ends) ∙ at) in record { is = o.is; address = o.address; after = o.after; sleeps = o.sleeps; acked = o.acked });
+    each_end = λ e end at. (let o = old.each_end e end (ap (λ v. slice_get v.items e) (sym ends) ∙ at) in record { is = o.is; sleeps = o.sleeps; acked = o.acked });
     all_urbs = count ∙ old.all_urbs;
     each_urb = urbs;
     unmoved = λ e none. old.unmoved e (sym (submit_pending p u t h c (machine_of s) e) ∙ none);
@@ -112,8 +117,8 @@ module _ (s : Scene) (f : Progress) (run : LineRun) (old : Shows s f run) (p u :
       none false = refl
 
   -- it accepted the URB, which has its transfer now
-  accepted : c ≡ Zero → c ≡ refusal (state_of h u) → t.actual ≡ 0 → (row : UrbRow) → ShowsUrb s f u row → ShowsUrb s k u (record row { transfer = Some t })
-  accepted zero gate actual row o =
+  accepted : u < length s.urbs → c ≡ Zero → c ≡ refusal (state_of h u) → t.actual ≡ 0 → (row : UrbRow) → ShowsUrb s f u row → ShowsUrb s k u (record row { transfer = Some t })
+  accepted near zero gate actual row o =
       let idle = free (state_of h u) (sym zero ∙ gate) in
       let places = calm_places (machine_of s) h u old.stands.legal old.linked in
       let bits : bit (state_of h u).queued ≡ 0 = ap bit idle in
@@ -126,6 +131,7 @@ module _ (s : Scene) (f : Progress) (run : LineRun) (old : Shows s f run) (p u :
         holds = (
           ap (λ (t : UrbState). t.queued) state,
           record {
+            own = near;
             start = t;
             sent = submit_sent p u t h c u ∙ (λ i. cond (eq-eqb u u refl i && is_zero (zero i)) (Some t) (sent_of h u));
             moving = nothing_moved (shape_at s (home s u)) t actual ∙ ap (moved (shape_at s (home s u)) t) (sym had);
@@ -137,16 +143,16 @@ module _ (s : Scene) (f : Progress) (run : LineRun) (old : Shows s f run) (p u :
 module _ (s : Scene) (f : Progress) (run : LineRun) (p u : ℕ) (t : Transfer) (may : MaySend s f run p u t) (c : Code) (gate : c ≡ refusal (state_of f.history u)) (plain : Plain)
     (stands : Stands plain (machine_of s) (f.history ++ submit_entries p u t c)) where
   pub sent_refused : (x : Errno) → c ≡ Fault x → Sent s f p u t c (record run { plain = plain })
-  sent_refused x fault = record { gate = gate; shows = shows_sent s f run may.shows p u t c (record run { plain = plain }) stands refl refl (refused s f run may.shows p u t c x fault) refl refl }
+  sent_refused x fault = record { gate = gate; shows = shows_sent s f run may.shows p u t c (record run { plain = plain }) stands refl refl (refused s f run may.shows p u t c x fault) refl refl refl }
 
   pub sent_accepted : (now : LineRun) → c ≡ Zero → Keeps (record run { plain = plain }) now u t → Sent s f p u t c now
   sent_accepted now zero keeps =
       let row = record keeps.row { transfer = Some t } in
-      let own = accepted s f run may.shows p u t c zero gate may.ask.unmoved keeps.row (may.shows.each_urb u keeps.row keeps.at) in
+      let own = accepted s f run may.shows p u t c may.near zero gate may.ask.unmoved keeps.row (may.shows.each_urb u keeps.row keeps.at) in
       record {
         gate = gate;
         shows = shows_sent s f run may.shows p u t c now (subst (λ (q : Plain). Stands q (machine_of s) (f.history ++ submit_entries p u t c)) (sym keeps.same.plain) stands) keeps.same_ends
             (ap (λ l. length l) keeps.rows ∙ length-set run.urbs.items u row)
             (each_set (ShowsUrb s f) (ShowsUrb s (adds f (submit_entries p u t c))) run.urbs.items now.urbs.items u row keeps.rows may.shows.each_urb own (λ v x off. urb_else s f run may.shows p u t c v x off))
-            keeps.same.told keeps.same.host;
+            keeps.same_devices keeps.same.told keeps.same.host;
       }

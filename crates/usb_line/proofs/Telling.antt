@@ -8,8 +8,8 @@ use Rattle.usb_scene.specs.declared.scene.Scene.{Scene}
 use Rattle.usb_line.specs.declared.run.EndRow.{EndRow}
 use Rattle.usb_line.specs.declared.run.EndReceived.{EndReceived}
 use Rattle.usb_line.specs.declared.run.LineRun.{LineRun}
-use Rattle.usb_line.specs.Prepared.{ends_of}
-use Rattle.usb_line.specs.Run.{below}
+use Rattle.usb_prepare.specs.Ends.{ends_of}
+use Rattle.usb_prepare.specs.Below.{below}
 use Rattle.usb_line.specs.Line.{Progress}
 use Rattle.usb_line.specs.Shows.{Shows}
 use Rattle.usb_line.specs.Outcome.{received_at, end_of}

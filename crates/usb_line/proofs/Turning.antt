@@ -1,7 +1,6 @@
 -- The look at an endpoint whose first pending transfer is moved on.
-use Rattle.std.proofs.Common.{ℕ, ◌≡◌, ◌<◌, true, false, Option, Some, None, List, [], ◌∷◌, length, sym, ap, ◌∙◌, subst}
+use Rattle.std.proofs.Common.{ℕ, ◌≡◌, ◌<◌, true, false, Option, Some, None, List, [], ◌∷◌, length, sym, ap, ◌∙◌, subst, arith}
 use Rattle.std.specs.Prelude.{slice_get}
-use Rattle.std.proofs.lemmas.List.{length-set}
 use Rattle.usb_types.specs.declared.errno.Code.{Code}
 use Rattle.usb_machine.specs.declared.layout.Shape.{Shape}
 use Rattle.usb_machine.specs.declared.transfer.Transfer.{Transfer}
@@ -11,7 +10,10 @@ use Rattle.usb_scene.specs.declared.scene.Scene.{Scene}
 use Rattle.usb_scene.specs.WellFormed.{IsWellFormed}
 use Rattle.usb_line.specs.declared.run.EndRow.{EndRow}
 use Rattle.usb_line.specs.declared.run.LineRun.{LineRun}
-use Rattle.usb_line.specs.Prepared.{machine_of, home, shape_at}
+use Rattle.usb_prepare.specs.Ends.{shape_at}
+use Rattle.usb_prepare.specs.Layout.{home}
+use Rattle.usb_prepare.proofs.Facts.{home_near, end_device}
+use Rattle.usb_line.specs.Prepared.{machine_of}
 use Rattle.usb_line.specs.Line.{Progress, marked_of}
 use Rattle.usb_line.specs.Shows.{Shows, turns_left}
 use Rattle.usb_line.specs.Back.{GaveBack}
@@ -44,6 +46,15 @@ module _ (s : Scene) (good : IsWellFormed s) (f : Progress) (run mid : LineRun) 
         let shape : end.shape ≡ shape_at s (home s u) = (old.each_end ep end ((λ i. slice_get (sym out.same_ends i).items ep) ∙ at)).is ∙ ap (shape_at s) here in
         subst (λ (x : Shape). 0 < x.max) (sym shape) (held_size s f run old good u t has)
 
+    pub has_device : (end : EndRow) → slice_get mid.ends.items ep ≡ Some end → end.shape.device < length mid.devices.items
+    has_device end at =
+        let shape : end.shape ≡ shape_at s (home s u) = (old.each_end ep end ((λ i. slice_get (sym out.same_ends i).items ep) ∙ at)).is ∙ ap (shape_at s) here in
+        let near = end_device s good (home s u) (home_near s good u has.near) in
+        let device = ap (λ (x : Shape). x.device) shape in
+        let all = old.devices.all in
+        let same : length mid.devices.items ≡ length run.devices.items = (λ i. length (out.same_devices i).items) in
+        omega arith
+
     module _ (on : LineRun) (now : Transfer) (code : Option Code) (moves : MovedOn mid on ep t now code) where
       moves_home : MovedOn mid on (home s u) t now code
       moves_home = subst (λ e. MovedOn mid on e t now code) here moves
@@ -57,7 +68,7 @@ module _ (s : Scene) (good : IsWellFormed s) (f : Progress) (run mid : LineRun) 
       -- it can come back
       pub moved_can_bring : CanBring on u
       moved_can_bring = can_bring s f run on old good u out.row out.at ((λ i. (moves.same_urbs i).items) ∙ out.rows)
-          (ap (λ (l : List EndRow). length l) moves.ends_so ∙ (length-set mid.ends.items ep (record moves.end { script = moves.script }) ∙ (λ i. length (out.same_ends i).items))) (moves.same.plain ∙ out.same.plain)
+          ((λ i. length (moves.same_ends i).items) ∙ (λ i. length (out.same_ends i).items)) (moves.same.plain ∙ out.same.plain)
 
       module _ (is : None ≡ code) (new : LineRun) (sleeps : FallsAsleep on new ep u now) where
         sleeps_home : FallsAsleep on new (home s u) u now

@@ -21,7 +21,9 @@ use Rattle.usb_xfer.specs.Moved.{moved_state, IsWhole}
 use Rattle.usb_xfer.specs.declared.packet.Step.TheVariants.{Ended}
 use Rattle.usb_scene.specs.declared.scene.Scene.{Scene}
 use Rattle.usb_line.specs.declared.made.Outcome.TheVariants as outcome
-use Rattle.usb_line.specs.Prepared.{machine_of, ends_of, home, shape_at, script_of}
+use Rattle.usb_prepare.specs.Ends.{ends_of, shape_at}
+use Rattle.usb_prepare.specs.Layout.{home}
+use Rattle.usb_line.specs.Prepared.{machine_of, script_of}
 use Rattle.usb_line.specs.Run.{Giveback, given_entries, giveback_entries, is_first, acts_again, IsGiveback, IsHandled, rounds_at, replies_in}
 use Rattle.usb_line.specs.Line.{Progress, with_takes, takes_below, is_unlinked, marked_of, had_after, GoesTo, IsServed, IsMarked, outcome_at, round_of, given_back, replies_had, waits, Passes, none, over, stops, Gives, unlinked, ended, GivesBack, one, IsIdle}
 use Rattle.usb_line.proofs.Entries.{stays}

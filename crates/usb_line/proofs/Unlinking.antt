@@ -1,6 +1,6 @@
 -- The first unlinked URB comes back.
 use Rattle.std.proofs.Common.{ℕ, zero, suc, ◌≡◌, ◌+◌, ◌<◌, Bool, true, false, cond, eqb, Some, None, List, [], ◌∷◌, length, filter, refl, sym, ap, ◌∙◌, subst, arith, ne_eqb, true≢false}
-use Rattle.std.specs.Prelude.{slice_get, slice_set}
+use Rattle.std.specs.Prelude.{slice_get}
 use mathlib.Core.Logic.{dite}
 use native.Mathlib.Decide.{ℕ_discrete, dec_lt}
 use Rattle.usb_types.specs.declared.errno.Code.TheVariants.{Fault}
@@ -18,21 +18,23 @@ use Rattle.usb_xfer.specs.Replies.{Reply}
 use Rattle.usb_scene.specs.declared.scene.Scene.{Scene}
 use Rattle.usb_line.specs.declared.run.UrbRow.{UrbRow}
 use Rattle.usb_line.specs.declared.run.LineRun.{LineRun}
-use Rattle.usb_line.specs.Prepared.{machine_of, ends_of, home, script_of}
+use Rattle.usb_prepare.specs.Ends.{ends_of}
+use Rattle.usb_prepare.specs.Layout.{home}
+use Rattle.usb_line.specs.Prepared.{machine_of}
 use Rattle.usb_line.specs.Run.{Giveback, is_first}
 use Rattle.usb_line.specs.Line.{Progress, is_unlinked, marked_below, marked_of, replies_used, replies_had, round_of, given_back}
-use Rattle.usb_line.specs.Scripted.{IsAfter}
-use Rattle.usb_line.specs.Shows.{ShowsEnd, Shows, turns_left}
+use Rattle.usb_line.specs.Shows.{ShowsDevices, Shows, turns_left}
 use Rattle.usb_line.specs.Back.{MayGive, GaveBack}
 use Rattle.usb_line.specs.Turned.{TakesOut, GaveUnlinked}
 use Rattle.usb_line.proofs.MayFollow.{once}
 use Rattle.usb_line.proofs.Marked.{times-append, unlinked, marked_at_home}
 use Rattle.usb_line.proofs.Turns.{outcome_gated}
-use Rattle.usb_line.proofs.Backs.{used_own}
-use Rattle.usb_line.proofs.Lookups.{set_read, set_again}
+use Rattle.usb_line.proofs.Backs.{used_own, used_else}
+use Rattle.usb_line.proofs.Lookups.{set_read}
 use Rattle.usb_line.proofs.Pendings.{IsHeld, held_transfer, same_urbs}
 use Rattle.usb_line.proofs.Scanning.{within}
 use Rattle.usb_line.proofs.Returned.{shows_returned, falls_returned}
+use Rattle.usb_line.proofs.Devices.{devices_same}
 
 -- who is among those that pass a test passes it
 passes : (p : ℕ → Bool) (u : ℕ) (us : List ℕ) → 0 < times u (filter p us) → p u ≡ true
@@ -109,14 +111,16 @@ module _ (s : Scene) (f : Progress) (run mid new : LineRun) (old : Shows s f run
   there : slice_get run.ends.items (home s u) ≡ Some back.end
   there = (λ i. slice_get (sym out.same_ends i).items (sym row_home i)) ∙ back.there
 
-  mid_ends : mid.ends.items ≡ slice_set run.ends.items (home s u) back.end
-  mid_ends = (λ i. (out.same_ends i).items) ∙ sym (set_again run.ends.items (home s u) back.end there)
-
   used : replies_used s (given_back s f r) (home s u) ≡ replies_used s f (home s u)
   used = used_own s f r ∙ (let kept = told_or_kept (is_first u (pending_of (machine_of s) h (home s u))) (f.so_far (home s u)) in omega arith)
 
-  abbrev shown : ShowsEnd s f (home s u) back.end
-  shown = old.each_end (home s u) back.end there
+  used_all : (d : ℕ) → replies_used s (given_back s f r) d ≡ replies_used s f d
+  used_all d = dite (ℕ_discrete (home s u) d)
+      (λ is. ap (replies_used s (given_back s f r)) (sym is) ∙ (used ∙ ap (replies_used s f) is))
+      (λ off. used_else s f r d off)
+
+  devices : ShowsDevices s (given_back s f r) mid.devices.items
+  devices = subst (λ l. ShowsDevices s (given_back s f r) l.items) (sym out.same_devices) (devices_same s f (given_back s f r) run.devices.items used_all old.devices)
 
   pub gave_unlinked : GaveUnlinked s f new
   gave_unlinked = record {
@@ -124,12 +128,12 @@ module _ (s : Scene) (f : Progress) (run mid new : LineRun) (old : Shows s f run
     why = why.0;
     start = has.moving.start;
     is = record { others = others; first = is; mark = why.1; transfer = has.moving.sent };
-    shows = shows_returned s f run old u out.row out.at back.end there mid new back.end.script out.rows mid_ends out.same None t back (Fault (errno_of why.0)) false has.moving.start (replies_had s f u)
-        may has.moving.moving shown.address (subst (IsAfter back.end.script (script_of s (home s u))) (sym used) shown.after);
+    shows = shows_returned s f run old u out.row out.at back.end there mid new out.rows out.same_ends out.same None t back (Fault (errno_of why.0)) false has.moving.start (replies_had s f u)
+        may has.moving.moving has.moving.own devices;
   }
 
   pub unlinked_falls : turns_left new < turns_left run
-  unlinked_falls = falls_returned s f run old u out.row out.at back.end there mid new back.end.script out.rows mid_ends out.same None t back (Fault (errno_of why.0)) false has.moving.start (replies_had s f u)
+  unlinked_falls = falls_returned s f run old u out.row out.at back.end there mid new out.rows out.same_ends out.same None t back (Fault (errno_of why.0)) false has.moving.start (replies_had s f u)
       may has.moving.moving t out.is
 
 -- the first unlinked URB is queued, and one of the run's

@@ -23,7 +23,8 @@ use Rattle.usb_line.specs.declared.run.UrbRow.{UrbRow}
 use Rattle.usb_line.specs.declared.run.EndRow.{EndRow}
 use Rattle.usb_line.specs.declared.run.Received.{Received}
 use Rattle.usb_line.specs.declared.run.LineRun.{LineRun}
-use Rattle.usb_line.specs.Prepared.{machine_of, home}
+use Rattle.usb_prepare.specs.Layout.{home}
+use Rattle.usb_line.specs.Prepared.{machine_of}
 use Rattle.usb_line.specs.Run.{Giveback, moved_in, resent, handled_by, given_entries, giveback_entries}
 use Rattle.usb_line.specs.Given.{brought_bytes, sent_bytes, IsReceived}
 
@@ -121,3 +122,4 @@ pub record GaveBack (old new : LineRun) (u : ℕ) (ended : Option Code) (t : Tra
   pub ends_so : new.ends.items ≡ slice_set old.ends.items row.home (record end { received = received })
   pub told : new.given ≡ old.given ++ record { urb = u; status = status; actual = t.actual; outcome = did; bytes = brought_bytes end.shape t } ∷ []
   pub host : new.down ≡ old.down
+  pub same_devices : new.devices ≡ old.devices

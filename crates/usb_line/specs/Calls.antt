@@ -12,7 +12,9 @@ use Rattle.usb_line.specs.declared.made.CallAnswer.{CallAnswer}
 use Rattle.usb_line.specs.declared.made.CallMade.{CallMade}
 use Rattle.usb_line.specs.declared.run.LineRun.{LineRun}
 use Rattle.usb_line.specs.Prepared.{deed_of, pass_of, main_pass, calls_of}
-use Rattle.usb_line.specs.Run.{below, Doing}
+use Rattle.usb_prepare.specs.Below.{below}
+use Rattle.usb_prepare.specs.Layout.{urb_count}
+use Rattle.usb_line.specs.Run.{Doing}
 use Rattle.usb_line.specs.Line.{Progress, adds, Gives, StaysLoud, WaitsFor, ClaimsEach, is_quiet, killing, Makes, with_doing, IsLine, Closes, IsLineRun}
 use Rattle.usb_line.specs.Shows.{Shows}
 use Rattle.usb_line.specs.Outcome.{made_of}
@@ -39,7 +41,7 @@ pub record MayKill (s : Scene) (f : Progress) (run : LineRun) (p u : ℕ) : Type
   pub shows : Shows s f run
   pub there : p < passes_of s
   pub other : p ≢ SERVER
-  pub near : u < length s.urbs
+  pub near : u < urb_count s
   pub room : (held_of (part_of f.history p) u).rejects < 255
 
 pub record CanKill (run : LineRun) (p u : ℕ) : Type 0 where
@@ -73,7 +75,7 @@ pub record MayMake (s : Scene) (f : Progress) (i : ℕ) (c : Call) (run : LineRu
   pub good : IsWellFormed s
   pub next : IsNext s f i c
   pub shows : Shows s f run
-  pub does : deed_of c ≡ deed
+  pub does : deed_of s c ≡ deed
   pub pass : pass_of s i ≡ p
 
 pub record CanMake (run : LineRun) (p : ℕ) (deed : Deed) : Type 0 where
@@ -95,14 +97,14 @@ pub record Made (s : Scene) (f : Progress) (i : ℕ) (c : Call) (answer : CallAn
 pub record IsShut (s : Scene) (f : Progress) (run : LineRun) : Type 0 where
   pub good : IsWellFormed s
   pub shows : Shows s f run
-  pub stops : (u : ℕ) → u < length s.urbs → IsStopping (state_of f.history u)
-  pub flagged : (u : ℕ) → u < length s.urbs → (held_of (part_of f.history HUB) u).flags.down ≡ true
+  pub stops : (u : ℕ) → u < urb_count s → IsStopping (state_of f.history u)
+  pub flagged : (u : ℕ) → u < urb_count s → (held_of (part_of f.history HUB) u).flags.down ≡ true
 
 pub record CanClaim (run : LineRun) (n : ℕ) : Type 0 where
   pub scene : Scene
   pub far : Progress
   pub is : IsShut scene far run
-  pub all : n ≡ length scene.urbs
+  pub all : n ≡ urb_count scene
 
 -- the hub waited for each of the first n URBs, and claimed what rested with it
 pub record Claimed (s : Scene) (f : Progress) (n : ℕ) (run : LineRun) : Type 0 where
@@ -148,7 +150,7 @@ pub record CanClose (run : LineRun) (p n : ℕ) : Type 0 where
   pub far : Progress
   pub is : IsCalled scene far run
   pub pass : p ≡ main_pass scene
-  pub all : n ≡ length scene.urbs
+  pub all : n ≡ urb_count scene
 
 -- main killed the first n URBs
 pub record KilledEach (s : Scene) (f : Progress) (n : ℕ) (run : LineRun) : Type 0 where

@@ -8,7 +8,8 @@ use Rattle.usb_xfer.specs.Moved.{acked_in}
 use Rattle.usb_scene.specs.declared.scene.Scene.{Scene}
 use Rattle.usb_line.specs.declared.made.Given.{Given}
 use Rattle.usb_line.specs.declared.run.Received.{Received}
-use Rattle.usb_line.specs.Prepared.{home, shape_at}
+use Rattle.usb_prepare.specs.Ends.{shape_at}
+use Rattle.usb_prepare.specs.Layout.{home}
 use Rattle.usb_line.specs.Run.{Giveback, moved_in, rounds_at}
 
 -- the bytes that were moved: the first `actual` of the window

@@ -2,8 +2,6 @@ pub mod Script
 pub mod Prepared
 pub mod Run
 pub mod Line
-pub mod Short
-pub mod Scripted
 pub mod Between
 pub mod Given
 pub mod Shows

@@ -1,7 +1,7 @@
 -- The run in line order: calls one after another, each with the turns that it waits for, and then the close.
 use Rattle.std.specs.Prelude.{ℕ, zero, suc, ◌≡◌, ◌+◌, ◌<◌, ◌==◌, ◌&&◌, not, Bool, true, false, if◌then◌else◌, ◌⊎◌, List, [], ◌∷◌, ◌++◌, length, map, filter, Option, Some, None}
 use Rattle.usb_types.specs.declared.errno.Errno.{Errno}
-use Rattle.usb_types.specs.declared.errno.Errno.TheVariants.{ESHUTDOWN}
+use Rattle.usb_types.specs.declared.errno.Errno.TheVariants.{ENODEV, ESHUTDOWN}
 use Rattle.usb_types.specs.declared.errno.Code.{Code}
 use Rattle.usb_types.specs.declared.errno.Code.TheVariants.{Fault}
 use Rattle.usb_types.specs.declared.urb.Why.{Why}
@@ -32,7 +32,9 @@ use Rattle.usb_line.specs.declared.made.CallAnswer.TheVariants as told
 use Rattle.usb_line.specs.declared.made.Outcome.{Outcome}
 use Rattle.usb_line.specs.declared.made.Outcome.TheVariants as outcome
 use Rattle.usb_line.specs.Script.{replies_from}
-use Rattle.usb_line.specs.Prepared.{machine_of, ends_of, home, shape_at, script_of, submit_fault, deed_of, pass_of, main_pass, calls_of}
+use Rattle.usb_prepare.specs.Ends.{ends_of, shape_at}
+use Rattle.usb_prepare.specs.Layout.{home}
+use Rattle.usb_line.specs.Prepared.{machine_of, script_of, submit_fault, deed_of, pass_of, main_pass, calls_of}
 use Rattle.usb_line.specs.Run.{urbs_of, Doing, call_entries, down_after, Giveback, given_entries, giveback_entries, acts_again, rounds_at, replies_in, is_first, seen_quiet}
 use Rattle.std.specs.List.{flat_map}
 
@@ -189,7 +191,7 @@ abbrev pub killing : ℕ → ℕ → Progress → Progress
 killing p u f = adds f (plain_entry p (Reject record { 0 = u }) ∷ mark_entry p Kill u (unlinking (state_of f.history u)) ∷ [])
 
 abbrev pub with_doing : Scene → Progress → Doing → Progress
-with_doing s f d = record f { doings = f.doings ++ d ∷ []; down = down_after f.down (deed_of d.call) d.answer }
+with_doing s f d = record f { doings = f.doings ++ d ∷ []; down = down_after f.down (deed_of s d.call) d.answer }
 
 abbrev pub doing : Progress → ℕ → Call → CallAnswer → List Code → List (Option ℕ) → Doing
 doing f i c answer marks rests = record { thread = i; call = c; answer = answer; marks = marks; rests = rests; down = f.down }
@@ -221,20 +223,21 @@ answer_now s f c (deed.Unblock u) = Some told.Done
 answer_now s f c deed.Serve = None
 answer_now s f c deed.Down = if f.down then Some (told.Code (Fault ESHUTDOWN)) else None
 answer_now s f c deed.Up = Some told.Done
+answer_now s f c deed.Absent = Some (told.Code (Fault ENODEV))
 answer_now s f c deed.Other = None
 
 -- one call of thread i: what it is with its answers, and how far the run is then, before the call is counted
 pub data Makes (s : Scene) (f : Progress) (i : ℕ) (c : Call) : Doing → Progress → Type 0 where
-  at_once : (answer : CallAnswer) → answer_now s f c (deed_of c) ≡ Some answer
+  at_once : (answer : CallAnswer) → answer_now s f c (deed_of s c) ≡ Some answer
       → Makes s f i c (doing f i c answer [] []) (adds f (call_entries s (doing f i c answer [] [])))
-  served : (m e : Progress) → deed_of c ≡ deed.Serve → GivesBack s (woken f) m → IsIdle s m e → Makes s f i c (doing f i c told.Nothing [] []) e
-  killed : (u : ℕ) (m : Progress) → deed_of c ≡ deed.Kill u → WaitsFor s u (killing (pass_of s i) u f) m
+  served : (m e : Progress) → deed_of s c ≡ deed.Serve → GivesBack s (woken f) m → IsIdle s m e → Makes s f i c (doing f i c told.Nothing [] []) e
+  killed : (u : ℕ) (m : Progress) → deed_of s c ≡ deed.Kill u → WaitsFor s u (killing (pass_of s i) u f) m
       → Makes s f i c (doing f i c (told.Buffer (state_of m.history u).rest) (unlinking (state_of f.history u) ∷ []) [])
       (adds m (claim_entries (pass_of s i) u (state_of m.history u).rest ++ unblock_entries (pass_of s i) u))
-  poisoned : (u : ℕ) (m : Progress) → deed_of c ≡ deed.Poison u → WaitsFor s u (killing (pass_of s i) u f) m
+  poisoned : (u : ℕ) (m : Progress) → deed_of s c ≡ deed.Poison u → WaitsFor s u (killing (pass_of s i) u f) m
       → Makes s f i c (doing f i c (told.Buffer (state_of m.history u).rest) (unlinking (state_of f.history u) ∷ []) [])
       (adds m (claim_entries (pass_of s i) u (state_of m.history u).rest))
-  shut_down : (rests : List (Option ℕ)) (m : Progress) → deed_of c ≡ deed.Down → f.down ≡ false
+  shut_down : (rests : List (Option ℕ)) (m : Progress) → deed_of s c ≡ deed.Down → f.down ≡ false
       → ClaimsEach s (pass_of s i) (shutting s (pass_of s i) f) (urbs_of s) rests m
       → Makes s f i c (doing f i c told.Done (shut_marks s (pass_of s i) f) rests) m
 

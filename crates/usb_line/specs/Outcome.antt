@@ -6,14 +6,15 @@ use Rattle.usb_line.specs.declared.run.Received.{Received}
 use Rattle.usb_line.specs.declared.run.EndRow.{EndRow}
 use Rattle.usb_line.specs.declared.run.EndReceived.{EndReceived}
 use Rattle.usb_line.specs.declared.line.LineOutcome.{LineOutcome}
-use Rattle.usb_line.specs.Prepared.{ends_of, shape_at, deed_of}
-use Rattle.usb_line.specs.Run.{below, Doing, Giveback}
+use Rattle.usb_prepare.specs.Ends.{ends_of, shape_at}
+use Rattle.usb_prepare.specs.Below.{below}
+use Rattle.usb_line.specs.Run.{Doing, Giveback}
 use Rattle.usb_line.specs.Given.{given_of, acked_at}
 use Rattle.usb_line.specs.Line.{Progress, IsLineRun}
 
 -- what is kept of a call that was made
 abbrev pub made_of : Doing → CallMade
-made_of d = record { thread = d.thread; line = d.call.line; deed = deed_of d.call; answer = d.answer }
+made_of d = record { thread = d.thread; line = d.call.line; code = d.call.code; target = d.call.target; answer = d.answer }
 
 -- how many bytes these are, and the first 64
 abbrev pub received_of : List ℕ → Received

@@ -1,16 +1,13 @@
--- What a scene prepares: the endpoints of its devices, the home of each URB, the script of each endpoint, the passes,
--- and the machine of its host.
-use Rattle.std.specs.Prelude.{ℕ, ◌+◌, Bool, false, ◌&&◌, ◌==◌, if◌then◌else◌, codes, List, [], ◌∷◌, ◌++◌, length, map, position, slice_get, replicate, Option, Some, None}
+-- What the run of a scene is made on: the machine of its host with the passes, the script of each endpoint, what its own
+-- URBs submit, and what its calls do.
+use Rattle.std.specs.Prelude.{ℕ, ◌+◌, Bool, false, ◌==◌, if◌then◌else◌, codes, List, [], ◌∷◌, ◌++◌, length, map, slice_get, replicate, Option, Some, None}
 use Rattle.std.specs.Str.{bytes_eq}
 use Rattle.usb_types.specs.declared.errno.Errno.{Errno}
 use Rattle.usb_machine.specs.declared.entry.TheConstants.{SERVER, HUB}
-use Rattle.usb_machine.specs.declared.layout.EndKind.TheVariants.{Control}
-use Rattle.usb_machine.specs.declared.layout.Shape.{Shape}
 use Rattle.usb_machine.specs.declared.transfer.Transfer.{Transfer}
 use Rattle.usb_machine.specs.Shapes.{shape_fault}
-use Rattle.usb_machine.specs.History.{Machine, home_of}
-use Rattle.usb_xfer.specs.Replies.{Reply}
-use Rattle.usb_xfer.specs.declared.script.Item.{Item}
+use Rattle.usb_machine.specs.History.{Machine}
+use Rattle.usb_device.specs.Items.{Script, last_at, script_at}
 use Rattle.usb_scene.specs.declared.scene.Scene.{Scene}
 use Rattle.usb_scene.specs.declared.scene.SceneDevice.{SceneDevice}
 use Rattle.usb_scene.specs.declared.scene.SceneUrb.{SceneUrb}
@@ -18,33 +15,10 @@ use Rattle.usb_scene.specs.declared.scene.SceneThread.{SceneThread}
 use Rattle.usb_scene.specs.declared.scene.Call.{Call}
 use Rattle.usb_scene.specs.declared.scene.Target.{Target}
 use Rattle.usb_scene.specs.declared.scene.Target.TheVariants as target
+use Rattle.usb_prepare.specs.Ends.{shape_at}
+use Rattle.usb_prepare.specs.Layout.{layout_of, home, role_urb}
 use Rattle.usb_line.specs.declared.made.Deed.{Deed}
 use Rattle.usb_line.specs.declared.made.Deed.TheVariants as deed
-use Rattle.usb_line.specs.Script.{Script, items_at, last_at}
-
--- each device has the control endpoint 00 (USB 2.0 §5.5)
-abbrev pub control_end : ℕ → Shape
-control_end device = record { device = device; address = 0; kind = Control; max = 64; interval = 0 }
-
--- the endpoints of these devices, of which the first has this number
-abbrev pub shapes_from : ℕ → List SceneDevice → List Shape
-shapes_from n [] = []
-shapes_from n (device ∷ devices) = (control_end n ∷ device.script.ends) ++ shapes_from (n + 1) devices
-
--- endpoints are numbered over the devices in scene order, each device's 00 first
-abbrev pub shapes_of : Scene → List Shape
-shapes_of s = shapes_from 0 s.devices
-
--- how many endpoints there are
-abbrev pub ends_of : Scene → ℕ
-ends_of s = length (shapes_of s)
-
-abbrev pub is_at : ℕ → ℕ → Shape → Bool
-is_at device address shape = (shape.device == device) && (shape.address == address)
-
--- the number of an URB's home endpoint
-abbrev pub home_at : Scene → SceneUrb → Option ℕ
-home_at s u = position (is_at u.device u.address) (shapes_of s)
 
 -- the thread with this name has the hub's pass
 abbrev pub is_hub : SceneThread → Bool
@@ -64,31 +38,15 @@ main_pass s = 2 + length s.threads
 
 -- the passes are the server's, the hub's, one for each thread, and main's. The server's runs the handlers
 abbrev pub machine_of : Scene → Machine
-machine_of s = record { layout = record { homes = map (home_at s) s.urbs; shapes = shapes_of s }; passes = 2 + (length s.threads + 1); bottom = SERVER }
+machine_of s = record { layout = layout_of s; passes = 2 + (length s.threads + 1); bottom = SERVER }
 
--- the home of URB u
-abbrev pub home : Scene → ℕ → ℕ
-home s u = home_of (machine_of s) u
+abbrev pub script_in : ℕ → Option SceneDevice → Script
+script_in address None = record { items = []; last = last_at address }
+script_in address (Some device) = script_at device.script address
 
-abbrev pub or_control : Option Shape → Shape
-or_control None = control_end 0
-or_control (Some shape) = shape
-
--- the shape of an endpoint
-abbrev pub shape_at : Scene → ℕ → Shape
-shape_at s e = or_control (slice_get (shapes_of s) e)
-
--- what an endpoint replies behind its last item
-abbrev pub last_of : Shape → Reply
-last_of shape = last_at shape.address
-
-abbrev pub script_in : Shape → Option SceneDevice → List Item
-script_in shape None = []
-script_in shape (Some device) = items_at shape.address device.script.answers
-
--- the script of an endpoint
+-- the script of an endpoint: what its device says of its address
 abbrev pub script_of : Scene → ℕ → Script
-script_of s e = let shape = shape_at s e in record { items = script_in shape (slice_get s.devices shape.device); last = last_of shape }
+script_of s e = let shape = shape_at s e in script_in shape.address (slice_get s.devices shape.device)
 
 abbrev pub len_in : Option SceneUrb → ℕ
 len_in None = 0
@@ -102,7 +60,8 @@ abbrev pub again_in : Option SceneUrb → ℕ
 again_in None = 0
 again_in (Some u) = u.again
 
--- how often the handler of URB u submits its transfer again
+-- how often the handler of URB u submits its transfer again: one of the scene's own as often as the scene says, and one of a
+-- driver never
 abbrev pub again_of : Scene → ℕ → ℕ
 again_of s u = again_in (slice_get s.urbs u)
 
@@ -136,15 +95,20 @@ deed_on code u =
 abbrev pub deed_alone : ℕ → Deed
 deed_alone code = if code == 8 then deed.Serve else if code == 21 then deed.Down else if code == 22 then deed.Up else deed.Other
 
-abbrev pub deed_by : ℕ → Target → Deed
-deed_by code target.Nothing = deed_alone code
-deed_by code (target.Urb u) = deed_on code u
-deed_by code (target.Role device interface role) = deed.Other
-deed_by code (target.Anchor a) = deed.Other
-deed_by code (target.Device d) = deed.Other
+-- what it does to an URB of a driver, where there is one
+abbrev pub deed_on_any : ℕ → Option ℕ → Deed
+deed_on_any code None = deed.Absent
+deed_on_any code (Some u) = deed_on code u
 
-abbrev pub deed_of : Call → Deed
-deed_of c = deed_by c.code c.target
+abbrev pub deed_by : Scene → ℕ → Target → Deed
+deed_by s code target.Nothing = deed_alone code
+deed_by s code (target.Urb u) = deed_on code u
+deed_by s code (target.Role device interface role) = deed_on_any code (role_urb s device interface role)
+deed_by s code (target.Anchor a) = deed.Other
+deed_by s code (target.Device d) = deed.Other
+
+abbrev pub deed_of : Scene → Call → Deed
+deed_of s c = deed_by s c.code c.target
 
 -- the calls of these threads in line order, each with its thread's number, of which the first is i
 abbrev pub calls_from : ℕ → List SceneThread → List (ℕ × Call)

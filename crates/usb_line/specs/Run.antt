@@ -1,8 +1,8 @@
 -- What a history has to do with a scene, in whatever order its entries came.
-use Rattle.std.specs.Prelude.{ℕ, zero, suc, ◌≡◌, ◌≢◌, ◌<◌, ◌==◌, nat_lt, Bool, true, false, not, if◌then◌else◌, List, [], ◌∷◌, ◌++◌, length, map, filter, count_by, slice_get, Option, Some, None}
+use Rattle.std.specs.Prelude.{ℕ, ◌≡◌, ◌≢◌, ◌<◌, ◌==◌, nat_lt, Bool, true, false, not, if◌then◌else◌, List, [], ◌∷◌, ◌++◌, length, map, filter, count_by, slice_get, Option, Some, None}
 use Rattle.std.specs.List.{flat_map, All}
 use Rattle.usb_types.specs.declared.errno.Errno.{Errno}
-use Rattle.usb_types.specs.declared.errno.Errno.TheVariants.{ESHUTDOWN}
+use Rattle.usb_types.specs.declared.errno.Errno.TheVariants.{ENODEV, ESHUTDOWN}
 use Rattle.usb_types.specs.declared.errno.Code.{Code}
 use Rattle.usb_types.specs.declared.errno.Code.TheVariants.{Fault}
 use Rattle.usb_types.specs.declared.urb.Flag.TheVariants as flag
@@ -31,16 +31,14 @@ use Rattle.usb_line.specs.declared.made.CallAnswer.TheVariants as told
 use Rattle.usb_line.specs.declared.made.Outcome.{Outcome}
 use Rattle.usb_line.specs.declared.made.Outcome.TheVariants as outcome
 use Rattle.usb_line.specs.Script.{replies_from}
-use Rattle.usb_line.specs.Prepared.{machine_of, home, shape_at, script_of, fresh, submit_fault, again_of, deed_of, pass_of, main_pass}
+use Rattle.usb_prepare.specs.Below.{below}
+use Rattle.usb_prepare.specs.Ends.{shape_at}
+use Rattle.usb_prepare.specs.Layout.{urb_count, home}
+use Rattle.usb_line.specs.Prepared.{machine_of, script_of, fresh, submit_fault, again_of, deed_of, pass_of, main_pass}
 
--- the numbers below n, rising
-abbrev pub below : ℕ → List ℕ
-below zero = []
-below (suc n) = below n ++ n ∷ []
-
--- the URBs of a scene
+-- all URBs of a scene
 abbrev pub urbs_of : Scene → List ℕ
-urbs_of s = below (length s.urbs)
+urbs_of s = below (urb_count s)
 
 -- a call that a thread made, with its answer, and with what its entries answered that it does not tell: what the marks
 -- of URBs were answered, what rested, and whether the host was down before
@@ -74,7 +72,7 @@ deed_entries s p c deed.Up told.Done marks rests true = unflag_entries p flag.Do
 deed_entries s p c d a marks rests down = []
 
 abbrev pub call_entries : Scene → Doing → List Entry
-call_entries s d = deed_entries s (pass_of s d.thread) d.call (deed_of d.call) d.answer d.marks d.rests d.down
+call_entries s d = deed_entries s (pass_of s d.thread) d.call (deed_of s d.call) d.answer d.marks d.rests d.down
 
 -- a submit whose shape has a fault answers that fault
 abbrev pub IsShapeAnswer : Option Errno → Code → Type 0
@@ -96,14 +94,15 @@ IsAnswered s d (deed.Unpoison u) a = a ≡ told.Done
 IsAnswered s d (deed.Block u) a = a ≡ told.Done
 IsAnswered s d (deed.Unblock u) a = a ≡ told.Done
 IsAnswered s d deed.Serve a = a ≡ told.Nothing
-IsAnswered s d deed.Down a = IsDownAnswer d.down a × (a ≡ told.Done → (length d.marks ≡ length s.urbs) × (length d.rests ≡ length s.urbs))
+IsAnswered s d deed.Down a = IsDownAnswer d.down a × (a ≡ told.Done → (length d.marks ≡ urb_count s) × (length d.rests ≡ urb_count s))
 IsAnswered s d deed.Up a = a ≡ told.Done
+IsAnswered s d deed.Absent a = a ≡ told.Code (Fault ENODEV)
 IsAnswered s d _ a = ⊥
 
 -- a call of a thread that is there, with an answer of its kind
 pub record IsMade (s : Scene) (d : Doing) : Type 0 where
   pub thread : d.thread < length s.threads
-  pub answered : IsAnswered s d (deed_of d.call) d.answer
+  pub answered : IsAnswered s d (deed_of s d.call) d.answer
 
 -- whether the host is down behind a call
 abbrev pub down_after : Bool → Deed → CallAnswer → Bool
@@ -112,9 +111,9 @@ down_after b deed.Up a = false
 down_after b d a = b
 
 -- each call found the host as the calls before it left it
-abbrev pub AreDowns : Bool → List Doing → Type 0
-AreDowns b [] = Unit {0}
-AreDowns b (d ∷ ds) = (d.down ≡ b) × AreDowns (down_after b (deed_of d.call) d.answer) ds
+abbrev pub AreDowns : Scene → Bool → List Doing → Type 0
+AreDowns s b [] = Unit {0}
+AreDowns s b (d ∷ ds) = (d.down ≡ b) × AreDowns s (down_after b (deed_of s d.call) d.answer) ds
 
 -- an episode that is over: its URB, its status, whether its transfer's result is the status, the transfer that was sent,
 -- the replies that moved it, and what the handler did
@@ -230,7 +229,7 @@ pub record IsClosed (s : Scene) (h : List Entry) : Type 0 where
   pub rests : List (Option ℕ)
   pub before : List Entry
   pub behind : List Entry
-  pub each : (length marks ≡ length s.urbs) × (length rests ≡ length s.urbs)
+  pub each : (length marks ≡ urb_count s) × (length rests ≡ urb_count s)
   pub main : part_of h (main_pass s) ≡ closing s marks rests
   pub split : h ≡ before ++ behind
   pub last : part_of before (main_pass s) ≡ []
@@ -238,7 +237,7 @@ pub record IsClosed (s : Scene) (h : List Entry) : Type 0 where
 
 -- nothing is left: no URB is queued, no handler runs, and all lists are empty
 pub record IsOver (s : Scene) (h : List Entry) : Type 0 where
-  pub urbs : (u : ℕ) → u < length s.urbs → ((state_of h u).queued ≡ false) × ((state_of h u).handlers ≡ 0)
+  pub urbs : (u : ℕ) → u < urb_count s → ((state_of h u).queued ≡ false) × ((state_of h u).handlers ≡ 0)
   pub ends : (e : ℕ) → (line_of (machine_of s) h e ≡ []) × (pending_of (machine_of s) h e ≡ [])
 
 -- the history is one of this scene, with these calls and answers, and these givebacks
@@ -248,7 +247,7 @@ pub record IsRun (s : Scene) (h : List Entry) (doings : List Doing) (rounds : Li
   pub over : IsOver s h
   -- each call is one of a thread, has its answer, and found the host as it was left
   pub told : All (IsMade s) doings
-  pub downs : AreDowns false doings
+  pub downs : AreDowns s false doings
   -- each thread made the calls of its script, each once and in order
   pub calls : (i : ℕ) (thread : SceneThread) → slice_get s.threads i ≡ Some thread → map (λ d. d.call) (done_by i doings) ≡ thread.calls
   -- a thread's part of the history is the entries of its calls with their answers

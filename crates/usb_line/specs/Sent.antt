@@ -13,7 +13,8 @@ use Rattle.usb_scene.specs.declared.scene.Call.{Call}
 use Rattle.usb_line.specs.declared.made.Deed.TheVariants as deed
 use Rattle.usb_line.specs.declared.run.UrbRow.{UrbRow}
 use Rattle.usb_line.specs.declared.run.LineRun.{LineRun}
-use Rattle.usb_line.specs.Prepared.{machine_of, home, buffer_of}
+use Rattle.usb_prepare.specs.Layout.{home}
+use Rattle.usb_line.specs.Prepared.{machine_of, buffer_of}
 use Rattle.usb_line.specs.Line.{Progress, adds}
 use Rattle.usb_line.specs.Shows.{Shows}
 use Rattle.usb_line.specs.Steps.{passes_of}
@@ -57,4 +58,5 @@ pub record Keeps (old new : LineRun) (u : ℕ) (t : Transfer) : Type 0 where
   pub at : slice_get old.urbs.items u ≡ Some row
   pub rows : new.urbs.items ≡ slice_set old.urbs.items u (record row { transfer = Some t })
   pub same_ends : new.ends ≡ old.ends
+  pub same_devices : new.devices ≡ old.devices
   pub same : SameElse old new

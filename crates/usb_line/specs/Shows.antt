@@ -6,20 +6,26 @@ use Rattle.usb_machine.specs.declared.plain.Plain.{Plain}
 use Rattle.usb_machine.specs.History.{state_of, pending_of, sent_of}
 use Rattle.usb_machine.specs.Plain.{Stands}
 use Rattle.usb_xfer.specs.Moved.{moved, IsOpen}
+use Rattle.usb_device.specs.declared.scripted.Scripted.{Scripted}
+use Rattle.usb_device.specs.Device.{Call, questions_at, Stands as ScriptStands}
 use Rattle.usb_scene.specs.declared.scene.Scene.{Scene}
+use Rattle.usb_scene.specs.declared.scene.SceneDevice.{SceneDevice}
 use Rattle.usb_scene.specs.WellFormed.{IsWellFormed}
 use Rattle.usb_line.specs.declared.run.UrbRow.{UrbRow}
 use Rattle.usb_line.specs.declared.run.EndRow.{EndRow}
 use Rattle.usb_line.specs.declared.run.LineRun.{LineRun}
-use Rattle.usb_line.specs.Prepared.{machine_of, ends_of, home, shape_at, script_of, again_of}
+use Rattle.usb_prepare.specs.Ends.{ends_of, shape_at, is_raw_at}
+use Rattle.usb_prepare.specs.Layout.{urb_count, home}
+use Rattle.usb_line.specs.Prepared.{machine_of, again_of}
 use Rattle.usb_line.specs.Run.{times_back}
-use Rattle.usb_line.specs.Scripted.{IsAfter}
 use Rattle.usb_line.specs.Between.{IsCalm, AllLinked}
 use Rattle.usb_line.specs.Given.{given_of, acked_at, IsReceived}
 use Rattle.usb_line.specs.Line.{Progress, replies_used, replies_had, Gives, GivesBack, IsIdle, woken}
 
--- the transfer is the one that was sent, as its replies so far moved it, and they did not end it
+-- the URB is one of the scene's own, and the transfer the one that was sent, as its replies so far moved it, and they did
+-- not end it
 pub record IsMoving (s : Scene) (f : Progress) (u : ℕ) (t : Transfer) : Type 0 where
+  pub own : u < length s.urbs
   pub start : Transfer
   pub sent : sent_of f.history u ≡ Some start
   pub moving : t ≡ moved (shape_at s (home s u)) start (replies_had s f u)
@@ -37,20 +43,32 @@ pub record ShowsUrb (s : Scene) (f : Progress) (u : ℕ) (row : UrbRow) : Type 0
 
 pub record ShowsEnd (s : Scene) (f : Progress) (e : ℕ) (end : EndRow) : Type 0 where
   pub is : end.shape ≡ shape_at s e
-  pub address : end.script.address ≡ end.shape.address
-  pub after : IsAfter end.script (script_of s e) (replies_used s f e)
   pub sleeps : end.asleep ≡ f.asleep e
   pub acked : IsReceived (acked_at s e f.rounds) end.received
 
--- the run's object has come as far as f: its machine, its endpoints and URBs, and what came back
+-- the device heard these calls, and a raw one at each of its endpoints as many as the endpoint gave replies
+pub record ShowsDevice (s : Scene) (f : Progress) (d : ℕ) (scripted : Scripted) : Type 0 where
+  pub device : SceneDevice
+  pub at : slice_get s.devices d ≡ Some device
+  pub calls : List Call
+  pub stands : ScriptStands scripted device.script calls
+  pub counts : is_raw_at s d ≡ true → (e : ℕ) → e < ends_of s → (shape_at s e).device ≡ d → length (questions_at (shape_at s e).address calls) ≡ replies_used s f e
+
+-- each device of the scene is there
+pub record ShowsDevices (s : Scene) (f : Progress) (devices : List Scripted) : Type 0 where
+  pub all : length devices ≡ length s.devices
+  pub each : (d : ℕ) (scripted : Scripted) → slice_get devices d ≡ Some scripted → ShowsDevice s f d scripted
+
+-- the run's object has come as far as f: its machine, its devices, endpoints and URBs, and what came back
 pub record Shows (s : Scene) (f : Progress) (run : LineRun) : Type 0 where
   pub stands : Stands run.plain (machine_of s) f.history
   pub calm : IsCalm f.history
   pub linked : AllLinked f.history
+  pub devices : ShowsDevices s f run.devices.items
   pub few_ends : ends_of s < 2 ^ 31
   pub all_ends : length run.ends.items ≡ ends_of s
   pub each_end : (e : ℕ) (end : EndRow) → slice_get run.ends.items e ≡ Some end → ShowsEnd s f e end
-  pub all_urbs : length run.urbs.items ≡ length s.urbs
+  pub all_urbs : length run.urbs.items ≡ urb_count s
   pub each_urb : (u : ℕ) (row : UrbRow) → slice_get run.urbs.items u ≡ Some row → ShowsUrb s f u row
   pub unmoved : (e : ℕ) → pending_of (machine_of s) f.history e ≡ [] → f.so_far e ≡ []
   pub came_back : run.given ≡ map (given_of s) f.rounds

@@ -10,14 +10,15 @@ use Rattle.usb_xfer.specs.Replies.{Reply}
 use Rattle.usb_xfer.specs.declared.packet.Step.{Step}
 use Rattle.usb_xfer.specs.declared.packet.Step.TheVariants.{More, Waiting, Ended}
 use Rattle.usb_xfer.specs.On.{Gave, RunsOn}
+use Rattle.usb_device.specs.declared.scripted.Scripted.{Scripted}
+use Rattle.usb_device.specs.Replied.{Replied}
 use Rattle.usb_scene.specs.declared.scene.Scene.{Scene}
 use Rattle.usb_scene.specs.WellFormed.{IsWellFormed}
 use Rattle.usb_line.specs.declared.run.UrbRow.{UrbRow}
 use Rattle.usb_line.specs.declared.run.EndRow.{EndRow}
 use Rattle.usb_line.specs.declared.run.LineRun.{LineRun}
-use Rattle.usb_line.specs.declared.script.EndScript.{EndScript}
-use Rattle.usb_line.specs.Prepared.{machine_of, ends_of}
-use Rattle.usb_line.specs.Scripted.{Replied}
+use Rattle.usb_prepare.specs.Ends.{ends_of}
+use Rattle.usb_line.specs.Prepared.{machine_of}
 use Rattle.usb_line.specs.Line.{Progress, marked_of, had_after, GoesTo, IsServed, IsMarked, round_of, given_back, replies_had, Passes}
 use Rattle.usb_line.specs.Shows.{Shows, turns_left}
 
@@ -40,19 +41,23 @@ pub record TakesOut (old new : LineRun) (u : ℕ) (t : Option Transfer) : Type 0
   pub is : t ≡ row.transfer
   pub rows : new.urbs.items ≡ slice_set old.urbs.items u (record row { transfer = None })
   pub same_ends : new.ends ≡ old.ends
+  pub same_devices : new.devices ≡ old.devices
   pub same : SameElse old new
 
--- a transfer was moved on at endpoint e until it ended with this code, or waits
+-- a transfer was moved on at endpoint e, whose device was asked until it ended with this code, or waits
 pub record MovedOn (old new : LineRun) (e : ℕ) (t now : Transfer) (code : Option Code) : Type 0 where
   pub end : EndRow
   pub there : slice_get old.ends.items e ≡ Some end
-  pub script : EndScript
+  pub device : Scripted
+  pub asked : slice_get old.devices.items end.shape.device ≡ Some device
+  pub after : Scripted
   pub more : List Reply
   pub step : Step
-  pub gave : Gave Replied end.shape t end.script more now script
+  pub gave : Gave Replied end.shape t device more now after
   pub runs : RunsOn end.shape t now more step
   pub says : code ≡ code_of step
-  pub ends_so : new.ends.items ≡ slice_set old.ends.items e (record end { script = script })
+  pub devices_so : new.devices.items ≡ slice_set old.devices.items end.shape.device after
+  pub same_ends : new.ends ≡ old.ends
   pub same_urbs : new.urbs ≡ old.urbs
   pub same : SameElse old new
 
@@ -64,6 +69,7 @@ pub record FallsAsleep (old new : LineRun) (e u : ℕ) (t : Transfer) : Type 0 w
   pub there : slice_get old.ends.items e ≡ Some end
   pub rows : new.urbs.items ≡ slice_set old.urbs.items u (record row { transfer = Some t })
   pub ends_so : new.ends.items ≡ slice_set old.ends.items e (record end { asleep = true })
+  pub same_devices : new.devices ≡ old.devices
   pub same : SameElse old new
 
 -- the first pending URB of endpoint e, where it is awake and has one

@@ -1,6 +1,7 @@
 //! The close of a run in line order.
-ghost use Rattle.std.specs.Prelude.{◌≡◌, length, IfOk};
+ghost use Rattle.std.specs.Prelude.{◌≡◌, IfOk};
 ghost use Rattle.usb_scene.specs.declared.scene.Scene.{Scene};
+ghost use Rattle.usb_prepare.specs.Layout.{urb_count};
 ghost use Rattle.usb_line.specs.Prepared.{main_pass};
 ghost use Rattle.usb_line.specs.Line.{Progress};
 ghost use Rattle.usb_line.specs.Calls.{IsCalled, CanEnd, CanClose, KilledEach, Closed};
@@ -14,7 +15,7 @@ impl LineRun<'_> {
     // Main kills each URB, in rising number.
     fn kill_each(&mut self, alloc: Global, pass: u32, urbs: u32) -> Result<(), Memory>
         requires { CanClose self.old pass urbs }
-        ensures { IfOk result (λ _. (s : Scene) (f : Progress) → IsCalled s f self.old → pass ≡ main_pass s → urbs ≡ length s.urbs → KilledEach s f urbs self.new) }
+        ensures { IfOk result (λ _. (s : Scene) (f : Progress) → IsCalled s f self.old → pass ≡ main_pass s → urbs ≡ urb_count s → KilledEach s f urbs self.new) }
     {
         for u in 0..urbs {
             self.kill_urb(alloc, pass, UrbId(u))?;

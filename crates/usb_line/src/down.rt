@@ -5,6 +5,7 @@ ghost use Rattle.usb_machine.specs.Plain.{urbs_of};
 ghost use Rattle.usb_scene.specs.declared.scene.Scene.{Scene};
 ghost use Rattle.usb_scene.specs.declared.scene.Call.{Call};
 ghost use Rattle.usb_scene.specs.WellFormed.{IsWellFormed};
+ghost use Rattle.usb_prepare.specs.Layout.{urb_count};
 ghost use Rattle.usb_line.specs.declared.made.Deed.TheVariants as deed;
 ghost use Rattle.usb_line.specs.Line.{Progress, shutting};
 ghost use Rattle.usb_line.specs.Shows.{IsShown, Shows};
@@ -30,7 +31,7 @@ impl LineRun<'_> {
     // Flags all URBs, and then unlinks them.
     fn begin_down(&mut self, urbs: u32)
         requires { urbs ≤ urbs_of self.old.plain }
-        ensures { (s : Scene) (f : Progress) → IsWellFormed s → Shows s f self.old → urbs ≡ length s.urbs → ((u : ℕ) → u < length s.urbs → (state_of f.history u).flags.down ≡ false)
+        ensures { (s : Scene) (f : Progress) → IsWellFormed s → Shows s f self.old → urbs ≡ urb_count s → ((u : ℕ) → u < urb_count s → (state_of f.history u).flags.down ≡ false)
             → IsShut s (shutting s HUB f) self.new }
     {
         flag_each(&mut self.plain, urbs);
@@ -40,7 +41,7 @@ impl LineRun<'_> {
     // Waits for each URB, and claims what rests with it.
     fn claim_each(&mut self, alloc: Global, urbs: u32) -> Result<(), Memory>
         requires { CanClaim self.old urbs }
-        ensures { IfOk result (λ _. (s : Scene) (f : Progress) → IsShut s f self.old → urbs ≡ length s.urbs → Claimed s f urbs self.new) }
+        ensures { IfOk result (λ _. (s : Scene) (f : Progress) → IsShut s f self.old → urbs ≡ urb_count s → Claimed s f urbs self.new) }
     {
         for u in 0..urbs {
             self.wait_for(alloc, u)?;

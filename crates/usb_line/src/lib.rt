@@ -12,7 +12,6 @@ mod make;
 mod prepare;
 mod received;
 mod run;
-mod script;
 mod steps;
 mod stop;
 mod submit;

@@ -1,6 +1,9 @@
 //! The run of a scene in line order.
 ghost use Rattle.std.specs.Prelude.{◌≡◌, [], map, length, IfOk};
 ghost use Rattle.usb_scene.specs.WellFormed.{IsWellFormed};
+ghost use Rattle.usb_prepare.specs.Prepared.{bindings_of};
+ghost use Rattle.usb_prepare.specs.Layout.{layout_of};
+ghost use Rattle.usb_prepare.specs.Ready.{AreReady};
 ghost use Rattle.usb_line.specs.Prepared.{calls_of};
 ghost use Rattle.usb_line.specs.Calls.{IsUnderway};
 ghost use Rattle.usb_line.specs.Outcome.{received_at, IsOutcome};
@@ -10,6 +13,9 @@ use crate::prepare::opening;
 use crate::run::{EndReceived, EndRow, LineRun};
 use crate::thread::main_pass_of;
 use std::alloc::Global;
+use usb_bind::Bound;
+use usb_device::Scripted;
+use usb_machine::Layout;
 use usb_scene::Scene;
 use usb_types::{List, Memory};
 
@@ -23,8 +29,8 @@ pub struct LineOutcome {
 }
 
 // What each endpoint acknowledged.
-fn received(alloc: Global, ends: Vec<EndRow<'_>>) -> Result<List<EndReceived>, Memory>
-    ensures { IfOk result (λ list. list ≡ map received_at ends.entry.items) }
+fn received(alloc: Global, ends: Vec<EndRow>) -> Result<List<EndReceived>, Memory>
+    ensures { IfOk result (λ list. list ≡ map received_at ends.items) }
 {
     let mut list = List::of(Vec::new(alloc));
     for end in ends {
@@ -40,27 +46,38 @@ fn received(alloc: Global, ends: Vec<EndRow<'_>>) -> Result<List<EndReceived>, M
 fn make_calls(
     alloc: Global,
     scene: &Scene,
+    bindings: &[Bound],
     run: &mut LineRun<'_>,
     made: &mut List<CallMade>,
 ) -> Result<(), Memory>
     requires good { IsWellFormed scene.now }
+    requires bound { bindings.now ≡ bindings_of scene.now }
     requires underway { IsUnderway scene.now [] run.old made.old }
     ensures { IfOk result (λ _. IsUnderway scene.now (calls_of scene.now) run.new made.new) }
 {
     for (i, thread) in scene.threads.items().iter().enumerate() {
-        run.make_all(alloc, scene, i as u32, thread.calls.items(), made)?;
+        run.make_all(alloc, scene, bindings, i as u32, thread.calls.items(), made)?;
     }
     Ok(())
 }
 
-/// Makes the calls of a scene one after another, and closes.
-pub fn run_line(alloc: Global, scene: &Scene) -> Result<LineOutcome, Memory>
-    requires { IsWellFormed scene.now }
+/// Makes the calls of a prepared scene one after another, and closes.
+pub fn run_line(
+    alloc: Global,
+    scene: &Scene,
+    devices: Vec<Scripted<'_>>,
+    bindings: &[Bound],
+    layout: &Layout,
+) -> Result<LineOutcome, Memory>
+    requires good { IsWellFormed scene.now }
+    requires devices { AreReady scene.now.devices devices.items }
+    requires bound { bindings.now ≡ bindings_of scene.now }
+    requires layout { layout.now ≡ layout_of scene.now }
     ensures { IfOk result (IsOutcome scene.now) }
 {
-    let mut run = opening(alloc, scene)?;
+    let mut run = opening(alloc, scene, devices, layout)?;
     let mut made = List::of(Vec::new(alloc));
-    make_calls(alloc, scene, &mut run, &mut made)?;
+    make_calls(alloc, scene, bindings, &mut run, &mut made)?;
     run.close(alloc, main_pass_of(scene))?;
     Ok(LineOutcome {
         made,

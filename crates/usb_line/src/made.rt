@@ -1,8 +1,9 @@
 //! What a run leaves for its report.
 
+use usb_scene::Target;
 use usb_types::{Buf, Code};
 
-/// What a call of a scene does. URBs are named by their numbers in the scene.
+/// What a call of a scene does. URBs are named by their numbers.
 #[derive(Clone, Copy, Debug, PartialEq, Eq)]
 pub enum Deed {
     Submit(u32),
@@ -16,6 +17,8 @@ pub enum Deed {
     Serve,
     Down,
     Up,
+    /// A call on an URB that no driver has.
+    Absent,
     /// A call that is not built yet.
     Other,
 }
@@ -36,7 +39,10 @@ pub struct CallMade {
     /// The thread's number in the scene.
     pub thread: u32,
     pub line: u32,
-    pub deed: Deed,
+    /// The call's number in the table of calls.
+    pub code: u32,
+    /// What it was made on, as the scene names it.
+    pub target: Target,
     pub answer: CallAnswer,
 }
 
@@ -51,7 +57,7 @@ pub enum Outcome {
 /// What a Give gave back, as the report tells it.
 #[derive(Debug, Drop)]
 pub struct Given {
-    /// The URB's number in the scene.
+    /// The URB's number.
     pub urb: u32,
     pub status: Code,
     /// How many bytes were moved.

@@ -1,6 +1,7 @@
 //! The calls of a run in line order, one after another.
 ghost use Rattle.std.specs.Prelude.{◌≡◌, ◌<◌, ◌+◌, ◌++◌, map, take, length, IfOk};
 ghost use Rattle.usb_scene.specs.WellFormed.{IsWellFormed};
+ghost use Rattle.usb_prepare.specs.Prepared.{bindings_of};
 ghost use Rattle.usb_line.specs.Line.{Progress};
 ghost use Rattle.usb_line.specs.Prepared.{calls_from};
 ghost use Rattle.usb_line.specs.Calls.{MayBeMade, CanBeMade, Made, IsUnderway};
@@ -9,6 +10,7 @@ use crate::made::{CallAnswer, CallMade, Deed};
 use crate::run::LineRun;
 use crate::thread::{deed_in, pass_of_thread};
 use std::alloc::Global;
+use usb_bind::Bound;
 use usb_scene::{Call, Scene};
 use usb_types::{List, Memory, UrbId};
 
@@ -18,14 +20,16 @@ impl LineRun<'_> {
         &mut self,
         alloc: Global,
         scene: &Scene,
+        bindings: &[Bound],
         thread: u32,
         call: &Call,
     ) -> Result<CallAnswer, Memory>
-        requires { CanBeMade scene.now thread call.now self.old }
+        requires can { CanBeMade scene.now thread call.now self.old }
+        requires bound { bindings.now ≡ bindings_of scene.now }
         ensures { IfOk result (λ told. (f : Progress) → MayBeMade scene.now f thread call.now self.old → Made scene.now f thread call.now told self.new) }
     {
         let pass = pass_of_thread(scene, thread);
-        match deed_in(call) {
+        match deed_in(bindings, call) {
             Deed::Submit(urb) => {
                 let row = &scene.urbs.items()[urb as usize];
                 self.submit(alloc, pass, UrbId(urb), row, call)
@@ -39,6 +43,7 @@ impl LineRun<'_> {
             Deed::Serve => self.serve_all(alloc),
             Deed::Down => self.take_down(alloc),
             Deed::Up => Ok(self.bring_up()),
+            Deed::Absent => Ok(self.refuse()),
             Deed::Other => Ok(CallAnswer::Nothing),
         }
     }
@@ -48,22 +53,25 @@ impl LineRun<'_> {
         &mut self,
         alloc: Global,
         scene: &Scene,
+        bindings: &[Bound],
         thread: u32,
         calls: &[Call],
         made: &mut List<CallMade>,
     ) -> Result<(), Memory>
         requires good { IsWellFormed scene.now }
+        requires bound { bindings.now ≡ bindings_of scene.now }
         requires there { thread < length scene.now.threads }
         requires script { calls_from 0 (take (thread + 1) scene.now.threads) ≡ calls_from 0 (take thread scene.now.threads) ++ map (λ call. (thread, call)) calls.now }
         requires underway { IsUnderway scene.now (calls_from 0 (take thread scene.now.threads)) self.old made.old }
         ensures { IfOk result (λ _. IsUnderway scene.now (calls_from 0 (take (thread + 1) scene.now.threads)) self.new made.new) }
     {
         for call in calls {
-            let answer = self.make(alloc, scene, thread, call)?;
+            let answer = self.make(alloc, scene, bindings, thread, call)?;
             made.push(CallMade {
                 thread,
                 line: call.line,
-                deed: deed_in(call),
+                code: call.code,
+                target: call.target,
                 answer,
             })?;
         }

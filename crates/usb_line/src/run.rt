@@ -1,7 +1,7 @@
 //! A run in line order, as far as it has come.
 
 use crate::made::Given;
-use crate::script::EndScript;
+use usb_device::Scripted;
 use usb_machine::{Plain, Shape, Transfer};
 use usb_types::{Buf, List};
 
@@ -34,9 +34,8 @@ pub struct EndReceived {
 
 /// An endpoint of a run.
 #[derive(Drop)]
-pub struct EndRow<'a> {
+pub struct EndRow {
     pub shape: Shape,
-    pub script: EndScript<'a>,
     pub asleep: bool,
     pub received: Received,
 }
@@ -45,7 +44,9 @@ pub struct EndRow<'a> {
 #[derive(Drop)]
 pub struct LineRun<'a> {
     pub plain: Plain,
-    pub ends: Vec<EndRow<'a>>,
+    /// Of each device of the scene, by its number.
+    pub devices: Vec<Scripted<'a>>,
+    pub ends: Vec<EndRow>,
     pub urbs: Vec<UrbRow>,
     pub given: List<Given>,
     /// Whether the host is down.

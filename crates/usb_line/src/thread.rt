@@ -1,10 +1,16 @@
 //! What the threads of a scene say.
-ghost use Rattle.std.specs.Prelude.{◌≡◌, ◌<◌, ◌≤◌, ◌^◌, length};
-ghost use Rattle.usb_line.specs.Prepared.{deed_on, deed_alone, deed_of, pass_of, main_pass};
+ghost use Rattle.std.specs.Prelude.{◌≡◌, ◌<◌, ◌≤◌, ◌^◌, length, find, option_map, option_and_then};
+ghost use Rattle.usb_scene.specs.declared.scene.Scene.{Scene};
+ghost use Rattle.usb_prepare.specs.Prepared.{bindings_of};
+ghost use Rattle.usb_types.specs.declared.urb.UrbId.{UrbId};
+ghost use Rattle.usb_bind.specs.Board.{is_binding_of, urb_of_role};
+ghost use Rattle.usb_line.specs.Prepared.{deed_on, deed_alone, deed_on_any, deed_of, pass_of, main_pass};
 
 use crate::made::Deed;
+use usb_bind::Bound;
 use usb_machine::HUB;
 use usb_scene::{Call, Scene, Target};
+use usb_types::Role;
 
 // What a call with this number in the table of calls does to an URB.
 fn deed_to(code: u32, urb: u32) -> Deed
@@ -34,14 +40,49 @@ fn deed_by_itself(code: u32) -> Deed
     }
 }
 
+// And what it does to an URB of a driver, where there is one.
+fn deed_to_any(code: u32, urb: Option<u32>) -> Deed
+    ensures { result ≡ deed_on_any code urb }
+{
+    match urb {
+        Some(urb) => deed_to(code, urb),
+        None => Deed::Absent,
+    }
+}
+
+// The binding of an interface of a device.
+fn binding_of(bindings: &[Bound], device: u32, interface: u8) -> Option<Bound>
+    ensures { result ≡ find (is_binding_of device interface) bindings.now }
+{
+    bindings
+        .iter()
+        .copied()
+        .find(|b| b.device == device && b.interface == interface)
+}
+
+// The number of the URB of this role that a driver has by its binding.
+fn bound_urb(bound: Option<Bound>, role: Role) -> Option<u32>
+    ensures { result ≡ option_map (λ (u : UrbId). u.0) (option_and_then (λ b. urb_of_role b role) bound) }
+{
+    Some(bound?.urb(role)?.0)
+}
+
 /// What a call does.
-pub fn deed_in(call: &Call) -> Deed
-    ensures { result ≡ deed_of call.now }
+pub fn deed_in(bindings: &[Bound], call: &Call) -> Deed
+    ensures { (s : Scene) → bindings.now ≡ bindings_of s → result ≡ deed_of s call.now }
 {
     match call.target {
         Target::Nothing => deed_by_itself(call.code),
         Target::Urb(urb) => deed_to(call.code, urb),
-        Target::Role { .. } | Target::Anchor(_) | Target::Device(_) => Deed::Other,
+        Target::Role {
+            device,
+            interface,
+            role,
+        } => deed_to_any(
+            call.code,
+            bound_urb(binding_of(bindings, device, interface), role),
+        ),
+        Target::Anchor(_) | Target::Device(_) => Deed::Other,
     }
 }
 

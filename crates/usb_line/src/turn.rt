@@ -52,10 +52,11 @@ impl LineRun<'_> {
         requires there { ep < length self.old.ends.items }
         requires window { HasWindow t.old }
         requires size { (end : EndRow) → slice_get self.old.ends.items ep ≡ Some end → 0 < end.shape.max }
+        requires device { (end : EndRow) → slice_get self.old.ends.items ep ≡ Some end → end.shape.device < length self.old.devices.items }
         ensures { MovedOn self.old self.new ep t.old t.new result }
     {
         let shape = self.ends[ep as usize].shape;
-        ended(advance_on(t, &shape, &mut self.ends[ep as usize].script))
+        ended(advance_on(t, &shape, &mut self.devices[shape.device as usize]))
     }
 
     // The transfer waits with its URB, and the endpoint sleeps.

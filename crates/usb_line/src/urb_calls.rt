@@ -11,7 +11,7 @@ use crate::made::CallAnswer;
 use crate::run::LineRun;
 use crate::steps::{mark, reject, withdraw};
 use std::alloc::Global;
-use usb_types::{Memory, UrbId, Why};
+use usb_types::{Code, Errno, Memory, UrbId, Why};
 
 impl LineRun<'_> {
     /// Unlinks the URB.
@@ -65,6 +65,13 @@ impl LineRun<'_> {
     {
         let rest = self.poison_urb(alloc, pass, urb)?;
         Ok(CallAnswer::Buffer(rest))
+    }
+
+    /// Answers a call on an URB that no driver has.
+    pub fn refuse(&self) -> CallAnswer
+        ensures { (s : Scene) (f : Progress) (i : ℕ) (c : Call) (p : ℕ) → MayMake s f i c self.now p deed.Absent → Made s f i c result self.now }
+    {
+        CallAnswer::Code(Code::Fault(Errno::ENODEV))
     }
 
     /// Turns until one gives nothing back.

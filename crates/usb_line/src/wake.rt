@@ -7,7 +7,7 @@ ghost use Rattle.usb_line.specs.Awake.{awake};
 
 use crate::run::{EndRow, LineRun};
 
-fn wake_all(ends: &mut [EndRow<'_>])
+fn wake_all(ends: &mut [EndRow])
     ensures { ends.new ≡ map awake ends.old }
 {
     for end in ends.iter_mut() {

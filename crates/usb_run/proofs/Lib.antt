@@ -1,1 +1,1 @@
-pub mod ThreadTexts
+pub mod Devices

@@ -1,4 +1,3 @@
-pub mod Report
 pub mod Io
 pub mod Words
 pub mod Status

@@ -9,6 +9,8 @@ use usb_text::is_text;
 pub enum Command {
     /// `serial`: the run of a scene in line order.
     Serial,
+    /// `list`: what the devices of a scene are found to be.
+    List,
 }
 
 fn command_named(word: &[u8]) -> Option<Command>
@@ -16,6 +18,8 @@ fn command_named(word: &[u8]) -> Option<Command>
 {
     if is_text(word, "serial") {
         Some(Command::Serial)
+    } else if is_text(word, "list") {
+        Some(Command::List)
     } else {
         None
     }

@@ -4,10 +4,9 @@
 mod command;
 mod input;
 mod output;
-mod report;
 mod status;
 mod top;
 
 pub use input::INPUT_LIMIT;
 pub use status::Status;
-pub use top::{serial, usbrun};
+pub use top::{list, serial, usbrun};

@@ -9,11 +9,11 @@ use usb_scene::Cause;
 /// How the program ended.
 #[derive(Clone, Copy, Debug, PartialEq, Eq)]
 pub enum Status {
-    /// The input was read to its end, and the whole report was written.
+    /// The input was read to its end, and the whole text was written.
     Done,
     /// The source failed.
     ReadFault,
-    /// The sink failed, behind some part of the report.
+    /// The sink failed, behind some part of the text.
     WriteFault,
     /// The words of the command line are not in the word grammar.
     BadWords,

@@ -5,31 +5,41 @@ ghost use Rattle.usb_scene.specs.declared.scene.Scene.{Scene};
 ghost use Rattle.usb_scene.specs.declared.cause.Cause.{Cause};
 ghost use Rattle.usb_scene.specs.Read.{scene_of};
 ghost use Rattle.usb_scene.specs.WellFormed.{IsWellFormed};
+ghost use Rattle.usb_run.specs.declared.command.Command.{Command};
 ghost use Rattle.usb_run.specs.Io.{ReadsTooMany};
 ghost use Rattle.usb_run.specs.Words.{command_of};
-ghost use Rattle.usb_run.specs.Top.{AddsReport, RanSerial, RanInPart, ReadNoScene};
+ghost use Rattle.usb_run.specs.Top.{list_of, Adds, Ran, RanInPart, ReadNoScene};
 
 use crate::command::{Command, read_command};
 use crate::input::{INPUT_LIMIT, Stop, read_input};
 use crate::output::write_output;
-use crate::report::push_report;
 use crate::status::Status;
 use std::alloc::Global;
 use std::sync::Wait;
 use std::thread::Threads;
 use usb_line::run_line;
+use usb_prepare::{Prepared, prepare};
+use usb_report::{push_list, push_report};
 use usb_scene::{Scene, SceneFault, read_scene};
 use usb_types::{Buf, Gate, Memory, Sink, Source};
 
-/// Adds the report of the scene's run in line order. After want of memory the report holds some prefix.
-pub fn serial(alloc: Global, scene: &Scene, report: &mut Buf) -> Result<(), Memory>
+/// Adds the report of the scene's run in line order. After want of memory the text holds some prefix of it.
+pub fn serial(alloc: Global, scene: &Scene, text: &mut Buf) -> Result<(), Memory>
     requires { IsWellFormed scene.now }
-    ensures { OnOk result (AddsReport scene.now report.old report.new) }
+    ensures { OnOk result (Adds Command.Serial scene.now text.old text.new) }
 {
-    let outcome = run_line(alloc, scene)?;
+    let Prepared {
+        devices,
+        found,
+        board,
+        layout,
+    } = prepare(alloc, scene)?;
+    let outcome = run_line(alloc, scene, devices, board.bindings(), &layout)?;
     push_report(
-        report,
+        text,
         scene,
+        found.items(),
+        board.bindings(),
         outcome.made.items(),
         outcome.given.items(),
         outcome.ends.items(),
@@ -37,7 +47,29 @@ pub fn serial(alloc: Global, scene: &Scene, report: &mut Buf) -> Result<(), Memo
     Ok(())
 }
 
-/// Reads a scene, and writes the report of its run in line order.
+/// Adds the list of what the scene's devices are found to be. After want of memory the text holds some prefix of it.
+pub fn list(alloc: Global, scene: &Scene, text: &mut Buf) -> Result<(), Memory>
+    requires { IsWellFormed scene.now }
+    ensures { OnOk result (text.new ≡ text.old ++ list_of scene.now) }
+{
+    let prepared = prepare(alloc, scene)?;
+    push_list(text, scene, prepared.found.items())?;
+    Ok(())
+}
+
+// Adds what a command prints of a scene.
+fn print(alloc: Global, command: Command, scene: &Scene, text: &mut Buf) -> Result<(), Memory>
+    requires { IsWellFormed scene.now }
+    ensures { OnOk result (Adds command scene.now text.old text.new) }
+{
+    match command {
+        Command::Serial => serial(alloc, scene, text),
+        Command::List => list(alloc, scene, text),
+    }
+}
+
+/// Reads a scene, and writes what the words' command prints of it: the report of its run in line order, or the list of what
+/// its devices are found to be.
 pub fn usbrun<R: Threads + Wait + Sync, S: Source, K: Sink, G: Gate + Sync>(
     _rt: &R,
     alloc: Global,
@@ -46,15 +78,15 @@ pub fn usbrun<R: Threads + Wait + Sync, S: Source, K: Sink, G: Gate + Sync>(
     out: &mut K,
     _gate: &G,
 ) -> Status
-    // The input was read to its end, and the whole report was written.
+    // The input was read to its end, and the whole text was written.
     ensures done { result ≡ Status.Done →
-        RanSerial (S.left input.old) (S.left input.new) (K.held out.old) (K.held out.new) }
+        Ran (map string_bytes words.now) (S.left input.old) (S.left input.new) (K.held out.old) (K.held out.new) }
 
     // Faults come only where the outside failed in this call.
     ensures read_fault { result ≡ Status.ReadFault → Rose (S.faults input.old) (S.faults input.new) }
     ensures write_fault { result ≡ Status.WriteFault → Rose (K.faults out.old) (K.faults out.new) }
     ensures write_part { result ≡ Status.WriteFault →
-        RanInPart (S.left input.old) (S.left input.new) (K.held out.old) (K.held out.new) }
+        RanInPart (map string_bytes words.now) (S.left input.old) (S.left input.new) (K.held out.old) (K.held out.new) }
 
     // Words that are not in the grammar are refused before anything is read.
     ensures bad_words { (result ≡ Status.BadWords) ↔ (command_of (map string_bytes words.now) ≡ None) }
@@ -66,23 +98,23 @@ pub fn usbrun<R: Threads + Wait + Sync, S: Source, K: Sink, G: Gate + Sync>(
     ensures too_long { result ≡ Status.TooLong →
         (bytes : List ℕ) × ReadsTooMany (S.left input.old) (S.left input.new) bytes }
 
-    ensures no_scene { (bytes : List ℕ) (line : ℕ) (cause : Cause) → command_of (map string_bytes words.now) ≡ Some Command.Serial → S.left input.old ≡ Some bytes →
+    ensures no_scene { (command : Command) (bytes : List ℕ) (line : ℕ) (cause : Cause) → command_of (map string_bytes words.now) ≡ Some command → S.left input.old ≡ Some bytes →
         length bytes ≤ INPUT_LIMIT → scene_of bytes ≡ Err (line, cause) →
         (result ≡ Status.BadScene line cause) ⊎ (result ≡ Status.ReadFault) ⊎ (result ≡ Status.Memory) }
-    ensures longer { (bytes : List ℕ) → command_of (map string_bytes words.now) ≡ Some Command.Serial → S.left input.old ≡ Some bytes →
+    ensures longer { (command : Command) (bytes : List ℕ) → command_of (map string_bytes words.now) ≡ Some command → S.left input.old ≡ Some bytes →
         INPUT_LIMIT < length bytes → (result ≡ Status.TooLong) ⊎ (result ≡ Status.ReadFault) ⊎ (result ≡ Status.Memory) }
 
-    // A scene between ends that do not fail is run, unless memory runs out.
-    ensures complete { (bytes : List ℕ) (scene : Scene) → command_of (map string_bytes words.now) ≡ Some Command.Serial → S.left input.old ≡ Some bytes →
+    // A scene between ends that do not fail is run or listed, unless memory runs out.
+    ensures complete { (command : Command) (bytes : List ℕ) (scene : Scene) → command_of (map string_bytes words.now) ≡ Some command → S.left input.old ≡ Some bytes →
         length bytes ≤ INPUT_LIMIT → scene_of bytes ≡ Ok scene →
         (Rose (S.faults input.old) (S.faults input.new) → ⊥) → (Rose (K.faults out.old) (K.faults out.new) → ⊥) →
         (result ≡ Status.Done) ⊎ (result ≡ Status.Memory) }
 
-    // Nothing is written where no run was made.
+    // Nothing is written where no text was made.
     ensures nothing_written { (result ≡ Status.Done → ⊥) → (result ≡ Status.WriteFault → ⊥) → out.new ≡ out.old }
     ensures counts { (S.faults input.old ≤ S.faults input.new) × (K.faults out.old ≤ K.faults out.new) }
 {
-    let Some(_) = read_command(words) else {
+    let Some(command) = read_command(words) else {
         return Status::BadWords;
     };
     let bytes = match read_input(alloc, input) {
@@ -96,11 +128,11 @@ pub fn usbrun<R: Threads + Wait + Sync, S: Source, K: Sink, G: Gate + Sync>(
         Err(SceneFault::Bad { line, cause }) => return Status::BadScene { line, cause },
         Err(SceneFault::Memory) => return Status::Memory,
     };
-    let mut report = Buf::of(Vec::new(alloc));
-    if serial(alloc, &scene, &mut report).is_err() {
+    let mut text = Buf::of(Vec::new(alloc));
+    if print(alloc, command, &scene, &mut text).is_err() {
         return Status::Memory;
     }
-    match write_output(out, report.bytes()) {
+    match write_output(out, text.bytes()) {
         Ok(()) => Status::Done,
         Err(_) => Status::WriteFault,
     }

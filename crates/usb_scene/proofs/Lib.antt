@@ -1,6 +1,9 @@
 mod Allowed
 mod CallCodes
+mod Counting
+mod Devices
 mod Drafts
+mod Examples
 mod FirstBad
 mod HeldCounts
 mod Naming
@@ -11,6 +14,8 @@ mod Reading
 mod Scenes
 mod Scripts
 mod Sound
+mod SoundCalls
 mod Splitting
+mod Targets
 mod WellRead
 mod Whole

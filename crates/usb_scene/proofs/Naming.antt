@@ -13,11 +13,10 @@ use Rattle.std.proofs.lemmas.List.{length_push}
 use Rattle.std.proofs.lemmas.List.Folds.{position_or_len_push}
 use Rattle.std.proofs.lemmas.List.Sums.{prefix_len-le-length}
 use Rattle.std.proofs.lemmas.Slice.Eq.{bytes_eq-Decides}
-use Rattle.usb_scene.specs.declared.scene.Scene.{Scene}
 use Rattle.usb_scene.specs.declared.scene.SceneUrb.{SceneUrb}
 use Rattle.usb_statement.specs.declared.statement.Statement.{Statement}
 use Rattle.usb_statement.specs.declared.statement.Statement.TheVariants as say
-use Rattle.usb_scene.specs.Rules.{urb_number, are_once}
+use Rattle.usb_scene.specs.Rules.{SoFar, urb_number, are_once}
 use Rattle.usb_scene.specs.Growth.{urb_said, scene_with}
 use Rattle.usb_scene.specs.Named.{number_in, FindsUrbs, found_with}
 use Rattle.usb_scene.proofs.Allowed.{IsAllowed}
@@ -72,16 +71,18 @@ last_number true find name other n new e =
 last_number false find name other n new e = sym (kept_found (find other))
 
 -- URBs are found behind a line
-pub found_behind : (s : Scene) (line : ℕ) (said : Statement) (find : List ℕ → Option ℕ) → IsAllowed s said → FindsUrbs s find
-    → (other : List ℕ) → found_with s said find other ≡ urb_number (scene_with s line said) other
-found_behind s line (say.Device name) find allowed h other = h other
+pub found_behind : (s : SoFar) (line : ℕ) (said : Statement) (find : List ℕ → Option ℕ) → IsAllowed s said → FindsUrbs s.scene find
+    → (other : List ℕ) → found_with s.scene said find other ≡ urb_number (scene_with s.scene line said) other
+found_behind s line (say.Device name kind) find allowed h other = h other
 found_behind s line (say.Ep address kind size interval) find allowed h other = h other
+found_behind s line (say.Bytes which bytes) find allowed h other = h other
+found_behind s line (say.Port status) find allowed h other = h other
 found_behind s line (say.Answer address items) find allowed h other = h other
 found_behind s line (say.Urb name device address options) find allowed h other =
-    let new = not-true (is_some (urb_number s name)) (and_parts (not (is_some (urb_number s name))) (are_once options) allowed.new).0 in
-    ap (λ o. cond (bytes_eq name other) (Some (length s.urbs)) o) (h other)
-    ∙ last_number (bytes_eq name other) (urb_number s) name other (length s.urbs) new refl
-    ∙ sym (position_push (λ (u : SceneUrb). bytes_eq u.name other) s.urbs (urb_said s name device address options))
+    let new = not-true (is_some (urb_number s.scene name)) (and_parts (not (is_some (urb_number s.scene name))) (are_once options) allowed.new).0 in
+    ap (λ o. cond (bytes_eq name other) (Some (length s.scene.urbs)) o) (h other)
+    ∙ last_number (bytes_eq name other) (urb_number s.scene) name other (length s.scene.urbs) new refl
+    ∙ sym (position_push (λ (u : SceneUrb). bytes_eq u.name other) s.scene.urbs (urb_said s.scene name device address options))
 found_behind s line (say.Thread name) find allowed h other = h other
 found_behind s line (say.Submit urb setup bytes) find allowed h other = h other
 found_behind s line (say.OnUrb call urb) find allowed h other = h other

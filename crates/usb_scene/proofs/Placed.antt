@@ -1,10 +1,9 @@
 -- A line's statement is of the row of its first word.
 use Rattle.std.proofs.Common.{◌≡◌, ℕ, true, List, [], ◌∷◌, Option, Some, None, refl, sym, ap, ◌∙◌}
-use Rattle.std.specs.Prelude.{codes, not, ◌&&◌}
+use Rattle.std.specs.Prelude.{not, ◌&&◌}
 use Rattle.std.specs.Option.{option_map}
-use Rattle.std.specs.Str.{bytes_eq}
 use Rattle.std.proofs.lemmas.Option.{option_and_then_some}
-use Rattle.usb_text.specs.Kinds.{number_of, address_of}
+use Rattle.usb_text.specs.Kinds.{number_of, byte_of, address_of}
 use Rattle.usb_text.proofs.Known.{some_if}
 use Rattle.usb_scene.specs.declared.scene.Scene.{Scene}
 use Rattle.usb_statement.specs.declared.statement.Statement.{Statement}
@@ -15,7 +14,7 @@ use Rattle.usb_statement.specs.Items.{items_of, are_items_of}
 use Rattle.usb_statement.specs.Options.{options_of}
 use Rattle.usb_statement.specs.Setups.{setup_first, behind_setup}
 use Rattle.usb_statement.specs.UrbNames.{name_of, urb_name_of}
-use Rattle.usb_statement.specs.Statements.{is_empty, end_of, kind_of, sent_of, statement_of, keyword_said}
+use Rattle.usb_statement.specs.Statements.{is_empty, device_kind_of, end_of, kind_of, kept_data, sent_of, statement_of, keyword_said}
 use Rattle.usb_scene.specs.Rules.{may_stand}
 
 map_some : {X Y : Type 0} (f : X → Y) (o : Option X) (y : Y) → option_map f o ≡ Some y → (x : X) × (o ≡ Some x) × (f x ≡ y)
@@ -28,12 +27,17 @@ said_as k x said e h = ap keyword_said (sym e) ∙ h
 
 pub first_said : (k : Keyword) (texts : List (List ℕ)) (said : Statement) → statement_of k texts ≡ Some said → keyword_said said ≡ k
 first_said word.Device (name ∷ kind ∷ []) said h =
-    option_and_then_some _ (name_of name) said h (λ n e g. said_as word.Device (say.Device n) said (some_if (bytes_eq kind (codes "raw")) (say.Device n) said g).1 refl)
+    option_and_then_some _ (name_of name) said h (λ n e g.
+    option_and_then_some _ (device_kind_of kind) said g (λ k f i. said_as word.Device (say.Device n k) said (cc) refl))
 first_said word.Ep (address ∷ kind ∷ size ∷ interval ∷ []) said h =
     option_and_then_some _ (end_of address) said h (λ a e g.
     option_and_then_some _ (kind_of kind) said g (λ k f i.
     option_and_then_some _ (number_of size) said i (λ s j l.
     option_and_then_some _ (number_of interval) said l (λ n m o. said_as word.Ep (say.Ep a k s n) said (cc) refl))))
+first_said (word.Bytes which) (text ∷ texts) said h =
+    let p = map_some (λ bytes. say.Bytes which bytes) (kept_data (text ∷ texts)) said h in said_as (word.Bytes which) (say.Bytes which p.0) said p.2 refl
+first_said word.Port (status ∷ []) said h =
+    let p = map_some (λ b. say.Port b) (byte_of status) said h in said_as word.Port (say.Port p.0) said p.2 refl
 first_said word.Answer (address ∷ items) said h =
     option_and_then_some _ (address_of address) said h (λ a e g.
     option_and_then_some _ (items_of items) said g (λ its f k.

@@ -11,25 +11,26 @@ use Rattle.usb_scene.specs.declared.cause.Cause.{Cause}
 use Rattle.usb_scene.specs.declared.cause.Cause.TheVariants as cause
 use Rattle.usb_scene.specs.WellFormed.{IsUrb, IsThread, IsWellFormed}
 use Rattle.usb_statement.specs.Statements.{keyword_of, keyword_said, statement_of}
-use Rattle.usb_scene.specs.Rules.{may_stand, statement_cause}
-use Rattle.usb_scene.specs.Growth.{scene_with, empty_scene}
+use Rattle.usb_scene.specs.Rules.{SoFar, may_stand, statement_cause}
+use Rattle.usb_scene.specs.Growth.{empty_scene, grown_by, nothing_said}
 use Rattle.usb_scene.specs.Counts.{AreFair}
 use Rattle.usb_statement.specs.Sayable.{IsSayable}
 use Rattle.usb_scene.specs.Read.{Reading, allowed, formed, in_place, is_header, grown, line_words, plain_read, ended, then_on, lines_read, scene_of}
 use Rattle.usb_scene.proofs.Placed.{place_said}
 use Rattle.usb_scene.proofs.Allowed.{IsAllowed, allowed_said}
 use Rattle.usb_statement.proofs.SaidLines.{said_sayable}
-use Rattle.usb_scene.proofs.Sound.{IsSound, sound_with}
+use Rattle.usb_scene.proofs.Sound.{sound_with}
+use Rattle.usb_scene.proofs.SoundCalls.{IsSound}
 
 abbrev IsGood : Reading → Type 0
 IsGood None = Unit {0}
-IsGood (Some scene) = IsSound scene
+IsGood (Some so_far) = IsSound so_far.scene
 
 -- what is known of a statement that stands on a good line
-record IsPlaced (scene : Scene) (said : Statement) : Type 0 where
-  place : may_stand scene (keyword_said said) ≡ true
+record IsPlaced (so_far : SoFar) (said : Statement) : Type 0 where
+  place : may_stand so_far.scene (keyword_said said) ≡ true
   sayable : IsSayable said
-  allowed : IsAllowed scene said
+  allowed : IsAllowed so_far said
 
 if_ok : {X : Type 0} (t : Bool) (x : Result X Cause) (c : Cause) (y : X) → cond t x (Err c) ≡ Ok y → (t ≡ true) × (x ≡ Ok y)
 if_ok true x c y h = (refl, h)
@@ -39,18 +40,18 @@ allowed_ok : (x : Statement) (o : Option Cause) (y : Statement) → allowed x o 
 allowed_ok x None y h = (refl, cc)
 allowed_ok x (Some c) y h = cc
 
-formed_ok : (scene : Scene) (o : Option Statement) (y : Statement) → formed scene o ≡ Ok y → (o ≡ Some y) × (statement_cause scene y ≡ None)
-formed_ok scene None y h = cc
-formed_ok scene (Some x) y h =
-    let p = allowed_ok x (statement_cause scene x) y h in
-    (ap Some p.1, ap (statement_cause scene) (sym p.1) ∙ p.0)
+formed_ok : (so_far : SoFar) (o : Option Statement) (y : Statement) → formed so_far o ≡ Ok y → (o ≡ Some y) × (statement_cause so_far y ≡ None)
+formed_ok so_far None y h = cc
+formed_ok so_far (Some x) y h =
+    let p = allowed_ok x (statement_cause so_far x) y h in
+    (ap Some p.1, ap (statement_cause so_far) (sym p.1) ∙ p.0)
 
-placed : (scene : Scene) (o : Option Keyword) (rest : List (List ℕ)) (said : Statement) → in_place scene o rest ≡ Ok said → IsPlaced scene said
-placed scene None rest said h = cc
-placed scene (Some k) rest said h =
-    let a = if_ok (may_stand scene k) (formed scene (statement_of k rest)) cause.Word said h in
-    let b = formed_ok scene (statement_of k rest) said a.1 in
-    record { place = place_said scene k rest said a.0 b.0; sayable = said_sayable k rest said b.0; allowed = allowed_said scene said b.1 }
+placed : (so_far : SoFar) (o : Option Keyword) (rest : List (List ℕ)) (said : Statement) → in_place so_far o rest ≡ Ok said → IsPlaced so_far said
+placed so_far None rest said h = cc
+placed so_far (Some k) rest said h =
+    let a = if_ok (may_stand so_far.scene k) (formed so_far (statement_of k rest)) cause.Word said h in
+    let b = formed_ok so_far (statement_of k rest) said a.1 in
+    record { place = place_said so_far.scene k rest said a.0 b.0; sayable = said_sayable k rest said b.0; allowed = allowed_said so_far said b.1 }
 
 empty_good : IsSound empty_scene
 empty_good = record {
@@ -69,25 +70,25 @@ empty_good = record {
 is_good : (a b : Reading) → IsGood a → a ≡ b → IsGood b
 is_good a b h e = subst IsGood e h
 
-grown_good : (scene : Scene) (n : ℕ) (read : Result Statement Cause) (next : Reading) → IsSound scene → n < 2 ^ 31
-    → ((said : Statement) → read ≡ Ok said → IsPlaced scene said) → grown scene n read ≡ Ok next → IsGood next
-grown_good scene n (Err c) next good low placed h = cc
-grown_good scene n (Ok said) next good low placed h =
+grown_good : (so_far : SoFar) (n : ℕ) (read : Result Statement Cause) (next : Reading) → IsSound so_far.scene → n < 2 ^ 31
+    → ((said : Statement) → read ≡ Ok said → IsPlaced so_far said) → grown so_far n read ≡ Ok next → IsGood next
+grown_good so_far n (Err c) next good low placed h = cc
+grown_good so_far n (Ok said) next good low placed h =
     let p = placed said refl in
-    is_good (Some (scene_with scene n said)) next (sound_with scene n said good p.place p.sayable p.allowed low) (cc)
+    is_good (Some (grown_by so_far n said)) next (sound_with so_far n said good p.place p.sayable p.allowed low) (cc)
 
 line_good : (reading : Reading) (n : ℕ) (texts : Option (List (List ℕ))) (next : Reading) → IsGood reading → n < 2 ^ 31 → plain_read reading n texts ≡ Ok next → IsGood next
 line_good reading n None next good low h = cc
 line_good reading n (Some []) next good low h = is_good reading next good (cc)
 line_good None n (Some (first ∷ rest)) next good low h =
-    let a = if_ok (is_header (first ∷ rest)) (Ok (Some empty_scene)) cause.Header next h in
-    is_good (Some empty_scene) next empty_good (let e = a.1 in cc)
-line_good (Some scene) n (Some (first ∷ rest)) next good low h =
-    grown_good scene n (in_place scene (keyword_of first) rest) next good low (placed scene (keyword_of first) rest) h
+    let a = if_ok (is_header (first ∷ rest)) (Ok (Some nothing_said)) cause.Header next h in
+    is_good (Some nothing_said) next empty_good (let e = a.1 in cc)
+line_good (Some so_far) n (Some (first ∷ rest)) next good low h =
+    grown_good so_far n (in_place so_far (keyword_of first) rest) next good low (placed so_far (keyword_of first) rest) h
 
 ended_good : (reading : Reading) (n : ℕ) (scene : Scene) → IsGood reading → ended reading n ≡ Ok scene → IsWellFormed scene
 ended_good None n scene good h = cc
-ended_good (Some s) n scene good h = let e : s ≡ scene = cc in subst IsWellFormed e good.formed
+ended_good (Some so_far) n scene good h = let e : so_far.scene ≡ scene = cc in subst IsWellFormed e good.formed
 
 then_good : (n : ℕ) (texts : List (List ℕ)) (read : Result Reading Cause) (scene : Scene)
     → ((next : Reading) → read ≡ Ok next → lines_read next n texts ≡ Ok scene → IsWellFormed scene)

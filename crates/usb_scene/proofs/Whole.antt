@@ -5,7 +5,8 @@ use Rattle.std.specs.Prelude.{codes}
 use Rattle.std.proofs.lemmas.Bool.{and_parts, true≢false, ne_eqb}
 use Rattle.usb_text.specs.Lines.{raw_lines, onto_first, without_return, is_plain}
 use Rattle.usb_text.specs.Words.{is_blank, words}
-use Rattle.usb_scene.specs.Growth.{scene_with, empty_scene}
+use Rattle.usb_scene.specs.Rules.{SoFar}
+use Rattle.usb_scene.specs.Growth.{grown_by, nothing_said}
 use Rattle.usb_scene.specs.Read.{lines_read, plain_read, words_read, line_words, then_on, grown, scene_of}
 use Rattle.usb_text.specs.Written.{spaced, AreWords}
 use Rattle.usb_scene.specs.SceneLaws.{Said, said_by, SaidInTurn, text_of}
@@ -53,26 +54,26 @@ line_words-spaced : (texts : List (List ℕ)) → AreWords texts → list_all is
 line_words-spaced texts h p =
     ap line_words (without_return-plain (spaced texts) p) ∙ ap (λ t. cond t (Some (words (spaced texts))) None) p ∙ ap Some (words-spaced texts h)
 
--- what a line makes of the scene
-words_read-said : (scene : Scene) (n : ℕ) (texts : List (List ℕ)) (statement : Statement) → said_by scene texts ≡ Ok statement
-    → words_read (Some scene) n texts ≡ Ok (Some (scene_with scene n statement))
-words_read-said scene n [] statement h = cc
-words_read-said scene n (first ∷ rest) statement h = ap (grown scene n) h
+-- what a line makes of what was said so far
+words_read-said : (so_far : SoFar) (n : ℕ) (texts : List (List ℕ)) (statement : Statement) → said_by so_far texts ≡ Ok statement
+    → words_read (Some so_far) n texts ≡ Ok (Some (grown_by so_far n statement))
+words_read-said so_far n [] statement h = cc
+words_read-said so_far n (first ∷ rest) statement h = ap (grown so_far n) h
 
 abbrev body : List Said → List ℕ
 body lines = flat_map (λ line. spaced line.0 ++ 10 ∷ []) lines
 
-lines_read-body : (scene : Scene) (n : ℕ) (lines : List Said) (last : Scene) → SaidInTurn scene n lines last → lines_read (Some scene) n (raw_lines (body lines)) ≡ Ok last
-lines_read-body scene n [] last h = ap (λ s. Ok s) h
-lines_read-body scene n (line ∷ lines) last h =
+lines_read-body : (so_far : SoFar) (n : ℕ) (lines : List Said) (last : Scene) → SaidInTurn so_far n lines last → lines_read (Some so_far) n (raw_lines (body lines)) ≡ Ok last
+lines_read-body so_far n [] last h = ap (λ s. Ok s) h
+lines_read-body so_far n (line ∷ lines) last h =
     let said = h.0 in
     let split : raw_lines (body (line ∷ lines)) ≡ spaced line.0 ∷ raw_lines (body lines) =
     ap raw_lines (append_assoc (spaced line.0) (10 ∷ []) (body lines)) ∙ raw_lines-line (spaced line.0) (body lines) said.plain in
-    let read : plain_read (Some scene) (n + 1) (line_words (without_return (spaced line.0))) ≡ Ok (Some (scene_with scene (n + 1) line.1)) =
-    ap (plain_read (Some scene) (n + 1)) (line_words-spaced line.0 said.texts said.plain) ∙ words_read-said scene (n + 1) line.0 line.1 said.says in
-    ap (lines_read (Some scene) n) split
+    let read : plain_read (Some so_far) (n + 1) (line_words (without_return (spaced line.0))) ≡ Ok (Some (grown_by so_far (n + 1) line.1)) =
+    ap (plain_read (Some so_far) (n + 1)) (line_words-spaced line.0 said.texts said.plain) ∙ words_read-said so_far (n + 1) line.0 line.1 said.says in
+    ap (lines_read (Some so_far) n) split
     ∙ ap (then_on (λ next. lines_read next (n + 1) (raw_lines (body lines))) (n + 1)) read
-    ∙ lines_read-body (scene_with scene (n + 1) line.1) (n + 1) lines last h.1
+    ∙ lines_read-body (grown_by so_far (n + 1) line.1) (n + 1) lines last h.1
 
 header-plain : list_all is_plain (codes "scene 1") ≡ true
 unfolding is_plain
@@ -82,9 +83,9 @@ header-words : line_words (without_return (codes "scene 1")) ≡ Some (codes "sc
 unfolding is_plain is_blank
 header-words = refl
 
-pub scene_of-text_of : (lines : List Said) (scene : Scene) → SaidInTurn empty_scene 1 lines scene → scene_of (text_of lines) ≡ Ok scene
+pub scene_of-text_of : (lines : List Said) (scene : Scene) → SaidInTurn nothing_said 1 lines scene → scene_of (text_of lines) ≡ Ok scene
 scene_of-text_of lines scene h =
-    let read : plain_read None 1 (line_words (without_return (codes "scene 1"))) ≡ Ok (Some empty_scene) = ap (plain_read None 1) header-words in
+    let read : plain_read None 1 (line_words (without_return (codes "scene 1"))) ≡ Ok (Some nothing_said) = ap (plain_read None 1) header-words in
     ap (lines_read None 0) (raw_lines-line (codes "scene 1") (body lines) header-plain)
     ∙ ap (then_on (λ next. lines_read next 1 (raw_lines (body lines))) 1) read
-    ∙ lines_read-body empty_scene 1 lines scene h
+    ∙ lines_read-body nothing_said 1 lines scene h

@@ -1,10 +1,10 @@
 -- What a line adds to the scene.
-use Rattle.std.specs.Prelude.{ℕ, ◌-◌, ◌==◌, if◌then◌else◌, List, [], ◌∷◌, ◌++◌, length, Option, None, unwrap_or}
+use Rattle.std.specs.Prelude.{ℕ, ◌-◌, ◌==◌, Bool, true, false, if◌then◌else◌, List, [], ◌∷◌, ◌++◌, length, Option, Some, None, unwrap_or}
 use Rattle.std.specs.List.{list_any}
 use Rattle.usb_machine.specs.declared.layout.EndKind.{EndKind}
 use Rattle.usb_machine.specs.declared.layout.Shape.{Shape}
 use Rattle.usb_xfer.specs.declared.script.Answers.{Answers}
-use Rattle.usb_xfer.specs.declared.script.Kind.TheVariants.{Raw}
+use Rattle.usb_xfer.specs.declared.script.Kind.{Kind}
 use Rattle.usb_scene.specs.declared.scene.Scene.{Scene}
 use Rattle.usb_scene.specs.declared.scene.SceneDevice.{SceneDevice}
 use Rattle.usb_scene.specs.declared.scene.SceneUrb.{SceneUrb}
@@ -15,12 +15,13 @@ use Rattle.usb_scene.specs.declared.scene.Target.TheVariants as target
 use Rattle.usb_statement.specs.declared.statement.Statement.{Statement}
 use Rattle.usb_statement.specs.declared.statement.Statement.TheVariants as say
 use Rattle.usb_statement.specs.declared.options.UrbOption.{UrbOption}
-use Rattle.usb_statement.specs.declared.urb_name.UrbName.{UrbName}
+use Rattle.usb_statement.specs.declared.keyword.DeviceBytes.{DeviceBytes}
+use Rattle.usb_statement.specs.declared.keyword.DeviceBytes.TheVariants.{Desc, Config, Id}
 use Rattle.usb_statement.specs.declared.keyword.UrbCall.{UrbCall}
 use Rattle.usb_statement.specs.declared.keyword.UrbCall.TheVariants as on
 use Rattle.usb_statement.specs.declared.keyword.BareCall.{BareCall}
 use Rattle.usb_statement.specs.declared.keyword.BareCall.TheVariants as bare
-use Rattle.usb_scene.specs.Rules.{device_number, named_urb, is_short, len_in, again_in, replies_of}
+use Rattle.usb_scene.specs.Rules.{SoFar, device_number, urb_target, is_short, len_in, again_in, replies_of}
 
 -- a scene of version 1 with nothing in it
 abbrev pub empty_scene : Scene
@@ -32,10 +33,10 @@ on_last f [] = []
 on_last f (x ∷ []) = f x ∷ []
 on_last f (x ∷ y ∷ xs) = x ∷ on_last f (y ∷ xs)
 
--- a raw device without endpoints or answers
-abbrev pub bare_device : List ℕ → SceneDevice
-bare_device name =
-    record { name = name; script = record { kind = Raw; ends = []; desc = None; config = None; answers = []; id = None; port = 24 } }
+-- a device without lines of its own; a printer's port status says then that it is selected and has no error (printer class 1.1, §4.2.2)
+abbrev pub bare_device : List ℕ → Kind → SceneDevice
+bare_device name kind =
+    record { name = name; script = record { kind = kind; ends = []; desc = None; config = None; answers = []; id = None; port = 24 } }
 
 -- an endpoint of the device whose lines are being read
 abbrev pub end_said : Scene → ℕ → EndKind → ℕ → ℕ → Shape
@@ -44,6 +45,16 @@ end_said scene address kind size interval =
 
 abbrev pub with_end : Shape → SceneDevice → SceneDevice
 with_end shape device = record device { script = record device.script { ends = device.script.ends ++ shape ∷ [] } }
+
+-- the bytes that a line gives a device
+abbrev pub with_bytes : DeviceBytes → List ℕ → SceneDevice → SceneDevice
+with_bytes Desc bytes device = record device { script = record device.script { desc = Some bytes } }
+with_bytes Config bytes device = record device { script = record device.script { config = Some bytes } }
+with_bytes Id bytes device = record device { script = record device.script { id = Some bytes } }
+
+-- a printer's port status
+abbrev pub with_port : ℕ → SceneDevice → SceneDevice
+with_port status device = record device { script = record device.script { port = status } }
 
 -- one list of two of one address
 abbrev pub together : Answers → Answers → Answers
@@ -87,9 +98,6 @@ bare_call_code bare.Serve = 8
 bare_call_code bare.Down = 21
 bare_call_code bare.Up = 22
 
-abbrev pub urb_target : Scene → UrbName → Target
-urb_target scene urb = target.Urb (unwrap_or (named_urb scene urb) 0)
-
 abbrev pub with_call : Call → SceneThread → SceneThread
 with_call call thread = record thread { calls = thread.calls ++ call ∷ [] }
 
@@ -97,20 +105,43 @@ with_call call thread = record thread { calls = thread.calls ++ call ∷ [] }
 abbrev pub scene_calls : Scene → Call → Scene
 scene_calls scene call = record scene { threads = on_last (with_call call) scene.threads }
 
--- the scene with what the line adds to it
-abbrev pub scene_with : Scene → ℕ → Statement → Scene
-scene_with scene line (say.Device name) = record scene { devices = scene.devices ++ bare_device name ∷ [] }
-scene_with scene line (say.Ep address kind size interval) =
-    record scene { devices = on_last (with_end (end_said scene address kind size interval)) scene.devices }
-scene_with scene line (say.Answer address items) =
-    record scene { devices = on_last (with_answers (record { address = address; items = items })) scene.devices }
-scene_with scene line (say.Urb name device address options) =
+-- a change of the device whose lines are being read
+abbrev pub last_changed : (SceneDevice → SceneDevice) → Scene → Scene
+last_changed change scene = record scene { devices = on_last change scene.devices }
+
+-- the scene with what a line declares, if it declares something
+abbrev pub scene_declares : Scene → Statement → Scene
+scene_declares scene (say.Device name kind) = record scene { devices = scene.devices ++ bare_device name kind ∷ [] }
+scene_declares scene (say.Ep address kind size interval) = last_changed (with_end (end_said scene address kind size interval)) scene
+scene_declares scene (say.Bytes which bytes) = last_changed (with_bytes which bytes) scene
+scene_declares scene (say.Port status) = last_changed (with_port status) scene
+scene_declares scene (say.Answer address items) = last_changed (with_answers (record { address = address; items = items })) scene
+scene_declares scene (say.Urb name device address options) =
     record scene { urbs = scene.urbs ++ urb_said scene name device address options ∷ [] }
-scene_with scene line (say.Thread name) =
-    record scene { threads = scene.threads ++ record { name = name; calls = [] } ∷ [] }
+scene_declares scene (say.Thread name) = record scene { threads = scene.threads ++ record { name = name; calls = [] } ∷ [] }
+scene_declares scene _ = scene
+
+-- the scene with what a line adds to it
+abbrev pub scene_with : Scene → ℕ → Statement → Scene
 scene_with scene line (say.Submit urb setup bytes) = scene_calls scene (plain_call line 1 (urb_target scene urb) setup bytes)
 scene_with scene line (say.OnUrb call urb) = scene_calls scene (plain_call line (urb_call_code call) (urb_target scene urb) None None)
 scene_with scene line (say.Alone call) = scene_calls scene (plain_call line (bare_call_code call) target.Nothing None None)
+scene_with scene line statement = scene_declares scene statement
+
+-- whether the device whose lines are being read has its `port` line, behind a line
+abbrev pub port_with : Bool → Statement → Bool
+port_with has_port (say.Device name kind) = false
+port_with has_port (say.Port status) = true
+port_with has_port _ = has_port
+
+-- what the lines say behind one more
+abbrev pub grown_by : SoFar → ℕ → Statement → SoFar
+grown_by so_far line statement =
+    record { scene = scene_with so_far.scene line statement; has_port = port_with so_far.has_port statement }
+
+-- nothing but the header stands
+abbrev pub nothing_said : SoFar
+nothing_said = record { scene = empty_scene; has_port = false }
 
 -- how many answers and calls a line adds
 abbrev pub replies_said : Statement → ℕ

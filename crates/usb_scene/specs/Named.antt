@@ -1,12 +1,14 @@
 -- A map from the names of URBs to their numbers.
-use Rattle.std.specs.Prelude.{ℕ, ◌≡◌, List, length, Option, Some, unwrap_or, if◌then◌else◌}
+use Rattle.std.specs.Prelude.{ℕ, ◌≡◌, List, length, Option, Some, if◌then◌else◌}
 use Rattle.std.specs.Str.{bytes_eq}
 use Rattle.std.specs.HashMap.{HashMap, get_by}
 use Rattle.std.specs.declared.vec.Vec.{Vec}
 use Rattle.usb_scene.specs.declared.scene.Scene.{Scene}
+use Rattle.usb_scene.specs.declared.scene.Target.{Target}
+use Rattle.usb_scene.specs.declared.scene.Target.TheVariants as target
 use Rattle.usb_statement.specs.declared.statement.Statement.{Statement}
 use Rattle.usb_statement.specs.declared.statement.Statement.TheVariants as say
-use Rattle.usb_scene.specs.Rules.{urb_number, named_urb}
+use Rattle.usb_scene.specs.Rules.{urb_number, urb_target}
 
 -- the number of a name in a map
 abbrev pub number_in : {A S : Type 0} → HashMap (Vec ℕ A) ℕ S → List ℕ → Option ℕ
@@ -21,8 +23,8 @@ abbrev pub found_with : Scene → Statement → (List ℕ → Option ℕ) → Li
 found_with scene (say.Urb name device address options) find other = if bytes_eq name other then Some (length scene.urbs) else find other
 found_with scene _ find other = find other
 
--- the number of the URB that a line calls, 0 where it calls none
-abbrev pub called_urb : Scene → Statement → ℕ
-called_urb scene (say.Submit urb setup bytes) = unwrap_or (named_urb scene urb) 0
-called_urb scene (say.OnUrb call urb) = unwrap_or (named_urb scene urb) 0
-called_urb scene _ = 0
+-- the URB that a line calls
+abbrev pub called_target : Scene → Statement → Target
+called_target scene (say.Submit urb setup bytes) = urb_target scene urb
+called_target scene (say.OnUrb call urb) = urb_target scene urb
+called_target scene _ = target.Nothing

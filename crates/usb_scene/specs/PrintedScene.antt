@@ -5,21 +5,21 @@ use Rattle.usb_statement.specs.declared.statement.Statement.{Statement}
 use Rattle.usb_statement.specs.Statements.{keyword_said}
 use Rattle.usb_statement.specs.Sayable.{IsSayable}
 use Rattle.usb_statement.specs.Printed.{line_said}
-use Rattle.usb_scene.specs.Rules.{may_stand, statement_cause}
-use Rattle.usb_scene.specs.Growth.{scene_with}
+use Rattle.usb_scene.specs.Rules.{SoFar, may_stand, statement_cause}
+use Rattle.usb_scene.specs.Growth.{grown_by}
 use Rattle.usb_scene.specs.SceneLaws.{Said, text_of}
 
--- a statement that may come where the scene is so far
-pub record IsAllowed (scene : Scene) (statement : Statement) : Type 0 where
+-- a statement that may come behind what was said so far
+pub record IsAllowed (so_far : SoFar) (statement : Statement) : Type 0 where
   pub sayable : IsSayable statement
-  pub place : may_stand scene (keyword_said statement) ≡ true
-  pub no_cause : statement_cause scene statement ≡ None
+  pub place : may_stand so_far.scene (keyword_said statement) ≡ true
+  pub no_cause : statement_cause so_far statement ≡ None
 
--- statements behind line n may come one after another, and make this of the scene
-abbrev pub AllowedInTurn : Scene → ℕ → List Statement → Scene → Type 0
-AllowedInTurn scene n [] last = scene ≡ last
-AllowedInTurn scene n (statement ∷ statements) last =
-    IsAllowed scene statement × AllowedInTurn (scene_with scene (n + 1) statement) (n + 1) statements last
+-- statements behind line n may come one after another, and the last of them leaves this scene
+abbrev pub AllowedInTurn : SoFar → ℕ → List Statement → Scene → Type 0
+AllowedInTurn so_far n [] last = so_far.scene ≡ last
+AllowedInTurn so_far n (statement ∷ statements) last =
+    IsAllowed so_far statement × AllowedInTurn (grown_by so_far (n + 1) statement) (n + 1) statements last
 
 abbrev pub printed : Statement → Said
 printed statement = (line_said statement, statement)

@@ -5,8 +5,8 @@ use Rattle.std.specs.Str.{bytes_eq}
 use Rattle.usb_text.specs.Lines.{raw_lines, without_return, is_plain}
 use Rattle.usb_text.specs.Words.{words}
 use Rattle.usb_statement.specs.Statements.{keyword_of, statement_of}
-use Rattle.usb_scene.specs.Rules.{may_stand, statement_cause}
-use Rattle.usb_scene.specs.Growth.{scene_with, empty_scene}
+use Rattle.usb_scene.specs.Rules.{SoFar, may_stand, statement_cause}
+use Rattle.usb_scene.specs.Growth.{grown_by, nothing_said}
 use Rattle.usb_scene.specs.declared.scene.Scene.{Scene}
 use Rattle.usb_statement.specs.declared.statement.Statement.{Statement}
 use Rattle.usb_statement.specs.declared.keyword.Keyword.{Keyword}
@@ -23,33 +23,33 @@ allowed statement None = Ok statement
 allowed statement (Some c) = Err c
 
 -- a statement that fits its row
-abbrev pub formed : Scene → Option Statement → Result Statement Cause
-formed scene None = Err cause.Form
-formed scene (Some statement) = allowed statement (statement_cause scene statement)
+abbrev pub formed : SoFar → Option Statement → Result Statement Cause
+formed so_far None = Err cause.Form
+formed so_far (Some statement) = allowed statement (statement_cause so_far statement)
 
 -- what a line says, whose first word is known and belongs in this place
-abbrev pub in_place : Scene → Option Keyword → List (List ℕ) → Result Statement Cause
-in_place scene None rest = Err cause.Word
-in_place scene (Some keyword) rest =
-    if may_stand scene keyword then formed scene (statement_of keyword rest) else Err cause.Word
+abbrev pub in_place : SoFar → Option Keyword → List (List ℕ) → Result Statement Cause
+in_place so_far None rest = Err cause.Word
+in_place so_far (Some keyword) rest =
+    if may_stand so_far.scene keyword then formed so_far (statement_of keyword rest) else Err cause.Word
 
--- what is read so far: the scene, once the header was read
+-- what is read so far, once the header was read
 abbrev pub Reading : Type 0
-Reading = Option Scene
+Reading = Option SoFar
 
 abbrev pub is_header : List (List ℕ) → Bool
 is_header (scene ∷ version ∷ []) = bytes_eq scene (codes "scene") && bytes_eq version (codes "1")
 is_header _ = false
 
-abbrev pub grown : Scene → ℕ → Result Statement Cause → Result Reading Cause
-grown scene line (Ok statement) = Ok (Some (scene_with scene line statement))
-grown scene line (Err c) = Err c
+abbrev pub grown : SoFar → ℕ → Result Statement Cause → Result Reading Cause
+grown so_far line (Ok statement) = Ok (Some (grown_by so_far line statement))
+grown so_far line (Err c) = Err c
 
 -- what the words of a line make of what is read so far
 abbrev pub words_read : Reading → ℕ → List (List ℕ) → Result Reading Cause
 words_read reading line [] = Ok reading
-words_read None line (first ∷ rest) = if is_header (first ∷ rest) then Ok (Some empty_scene) else Err cause.Header
-words_read (Some scene) line (first ∷ rest) = grown scene line (in_place scene (keyword_of first) rest)
+words_read None line (first ∷ rest) = if is_header (first ∷ rest) then Ok (Some nothing_said) else Err cause.Header
+words_read (Some so_far) line (first ∷ rest) = grown so_far line (in_place so_far (keyword_of first) rest)
 
 -- the words of a line, where each of its bytes may stand in one
 abbrev pub line_words : List ℕ → Option (List (List ℕ))
@@ -61,7 +61,7 @@ plain_read reading line (Some texts) = words_read reading line texts
 
 -- at the end of the text the header must have been read
 abbrev pub ended : Reading → ℕ → Result Scene (ℕ × Cause)
-ended (Some scene) line = Ok scene
+ended (Some so_far) line = Ok so_far.scene
 ended None line = Err (max line 1, cause.Header)
 
 -- a bad line ends the reading, and behind a good one it goes on

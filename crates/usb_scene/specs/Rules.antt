@@ -1,15 +1,21 @@
--- Where a line may stand, what it must name, what it must not repeat, its limits, and its rules on rejects and the hub.
+-- Where a line may stand, what its device answers, what it must name, what it must not repeat, its limits, and its rules
+-- on rejects and the hub.
 use Rattle.std.specs.Prelude.{ℕ, ◌+◌, ◌-◌, Bool, true, false, ◌&&◌, ◌||◌, not, ◌==◌, nat_le, nat_lt, if◌then◌else◌, List, [], ◌∷◌, length, Option, Some, None, is_some, position, unwrap_or, slice_get, sum_by, count_by, codes}
-use Rattle.std.specs.List.{list_any}
+use Rattle.std.specs.List.{list_all, list_any}
+use Rattle.std.specs.Option.{option_map}
 use Rattle.std.specs.Str.{bytes_eq}
 use Rattle.usb_machine.specs.declared.layout.Shape.{Shape}
 use Rattle.usb_xfer.specs.declared.script.Answers.{Answers}
 use Rattle.usb_xfer.specs.declared.script.Item.{Item}
+use Rattle.usb_xfer.specs.declared.script.Kind.{Kind}
+use Rattle.usb_xfer.specs.declared.script.DeviceScript.{DeviceScript}
 use Rattle.usb_scene.specs.declared.scene.Scene.{Scene}
 use Rattle.usb_scene.specs.declared.scene.SceneDevice.{SceneDevice}
 use Rattle.usb_scene.specs.declared.scene.SceneUrb.{SceneUrb}
 use Rattle.usb_scene.specs.declared.scene.SceneThread.{SceneThread}
 use Rattle.usb_scene.specs.declared.scene.Call.{Call}
+use Rattle.usb_scene.specs.declared.scene.Target.{Target}
+use Rattle.usb_scene.specs.declared.scene.Target.TheVariants as target
 use Rattle.usb_statement.specs.declared.statement.Statement.{Statement}
 use Rattle.usb_statement.specs.declared.statement.Statement.TheVariants as say
 use Rattle.usb_statement.specs.declared.keyword.Keyword.{Keyword}
@@ -18,26 +24,60 @@ use Rattle.usb_statement.specs.declared.options.UrbOption.{UrbOption}
 use Rattle.usb_statement.specs.declared.options.UrbOption.TheVariants.{Len, Again, Short}
 use Rattle.usb_statement.specs.declared.urb_name.UrbName.{UrbName}
 use Rattle.usb_statement.specs.declared.urb_name.UrbName.TheVariants.{Scripted, Driver}
+use Rattle.usb_statement.specs.declared.keyword.DeviceBytes.{DeviceBytes}
+use Rattle.usb_statement.specs.declared.keyword.DeviceBytes.TheVariants.{Desc, Config, Id}
 use Rattle.usb_statement.specs.declared.keyword.UrbCall.{UrbCall}
 use Rattle.usb_statement.specs.declared.keyword.UrbCall.TheVariants as on
 use Rattle.usb_statement.specs.declared.keyword.BareCall.TheVariants as bare
 use Rattle.usb_scene.specs.declared.cause.Cause.{Cause}
 use Rattle.usb_scene.specs.declared.cause.Cause.TheVariants as cause
 use Rattle.usb_statement.specs.Statements.{is_empty}
-use Rattle.usb_scene.specs.WellFormed.{held_on}
+use Rattle.usb_scene.specs.WellFormed.{is_raw, is_printer, is_packet, held_on}
+
+-- what the lines so far say: the scene, and whether the device whose lines are being read has its `port` line
+pub record SoFar : Type 0 where
+  pub scene : Scene
+  pub has_port : Bool
 
 -- no URB is declared yet, and no thread
 abbrev pub in_devices : Scene → Bool
 in_devices scene = is_empty scene.urbs && is_empty scene.threads
 
+-- the device whose lines are being read
+abbrev pub last_device : Scene → Option SceneDevice
+last_device scene = slice_get scene.devices (length scene.devices - 1)
+
+-- whether there is a device, and it is of such a kind
+abbrev pub is_of : (Kind → Bool) → Option SceneDevice → Bool
+is_of test None = false
+is_of test (Some device) = test device.script.kind
+
+-- a device of a class has descriptors and drivers
+abbrev pub is_classed : Kind → Bool
+is_classed kind = not (is_raw kind)
+
+-- the kinds of device that such bytes belong to
+abbrev pub takes : DeviceBytes → Kind → Bool
+takes Desc kind = is_classed kind
+takes Config kind = is_classed kind
+takes Id kind = is_printer kind
+
 -- Devices come first, each with its own lines, then URBs, then threads with their calls.
 abbrev pub may_stand : Scene → Keyword → Bool
 may_stand scene word.Device = in_devices scene
-may_stand scene word.Ep = not (is_empty scene.devices) && in_devices scene
+may_stand scene word.Ep = is_of is_raw (last_device scene) && in_devices scene
+may_stand scene (word.Bytes which) = is_of (takes which) (last_device scene) && in_devices scene
+may_stand scene word.Port = is_of is_printer (last_device scene) && in_devices scene
 may_stand scene word.Answer = not (is_empty scene.devices) && in_devices scene
 may_stand scene word.Urb = is_empty scene.threads
 may_stand scene word.Thread = true
 may_stand scene _ = not (is_empty scene.threads)
+
+-- at 00 only a raw device's packets are those of its script
+abbrev pub fits_device : Scene → Statement → Bool
+fits_device scene (say.Answer address items) =
+    not (address == 0) || is_of is_raw (last_device scene) || list_all (λ (item : Item). not (is_packet item.what)) items
+fits_device scene _ = true
 
 -- the number of a declared name
 abbrev pub device_number : Scene → List ℕ → Option ℕ
@@ -49,7 +89,7 @@ urb_number scene name = position (λ (u : SceneUrb). bytes_eq u.name name) scene
 abbrev pub thread_number : Scene → List ℕ → Option ℕ
 thread_number scene name = position (λ (t : SceneThread). bytes_eq t.name name) scene.threads
 
--- the number of the URB that a call names, a scripted one
+-- the number of the scripted URB that a call names
 abbrev pub named_urb : Scene → UrbName → Option ℕ
 named_urb scene (Scripted name) = urb_number scene name
 named_urb scene (Driver device number role) = None
@@ -68,21 +108,38 @@ abbrev pub has_address : Option SceneDevice → ℕ → Bool
 has_address None address = false
 has_address (Some device) address = address == 0 || has_end (Some device) address
 
--- the device whose lines are being read
-abbrev pub last_device : Scene → Option SceneDevice
-last_device scene = slice_get scene.devices (length scene.devices - 1)
-
 -- the device with this number, if there is one
 abbrev pub numbered_device : Scene → Option ℕ → Option SceneDevice
 numbered_device scene None = None
 numbered_device scene (Some number) = slice_get scene.devices number
 
--- each name and address that the line takes as declared is so
+-- whether a device answers at an address: a raw one at those that it has, and another at each
+abbrev pub may_answer : Option SceneDevice → ℕ → Bool
+may_answer None address = false
+may_answer (Some device) address = is_classed device.script.kind || has_address (Some device) address
+
+-- whether a line may declare an URB there: at an address of a raw device
+abbrev pub is_home : Option SceneDevice → ℕ → Bool
+is_home device address = is_of is_raw device && has_address device address
+
+-- the number of the device with this name, where drivers have its URBs
+abbrev pub driven_number : Scene → List ℕ → Option ℕ
+driven_number scene name = if is_of is_classed (numbered_device scene (device_number scene name)) then device_number scene name else None
+
+-- the URB that a call names, if there may be one
+abbrev pub named_target : Scene → UrbName → Option Target
+named_target scene (Scripted name) = option_map (λ u. target.Urb u) (urb_number scene name)
+named_target scene (Driver device number role) = option_map (λ d. target.Role d number role) (driven_number scene device)
+
+abbrev pub urb_target : Scene → UrbName → Target
+urb_target scene urb = unwrap_or (named_target scene urb) target.Nothing
+
+-- each name and address that the line takes as declared is so, and of the kind that the line asks
 abbrev pub names_stand : Scene → Statement → Bool
-names_stand scene (say.Answer address items) = has_address (last_device scene) address
-names_stand scene (say.Urb name device address options) = has_address (numbered_device scene (device_number scene device)) address
+names_stand scene (say.Answer address items) = may_answer (last_device scene) address
+names_stand scene (say.Urb name device address options) = is_home (numbered_device scene (device_number scene device)) address
 names_stand scene (say.Submit urb setup bytes) = is_some (named_urb scene urb)
-names_stand scene (say.OnUrb call urb) = is_some (named_urb scene urb)
+names_stand scene (say.OnUrb call urb) = is_some (named_target scene urb)
 names_stand scene _ = true
 
 abbrev pub is_len : UrbOption → Bool
@@ -101,13 +158,25 @@ is_short _ = false
 abbrev pub are_once : List UrbOption → Bool
 are_once options = nat_le (count_by is_len options) 1 && nat_le (count_by is_again options) 1 && nat_le (count_by is_short options) 1
 
+-- the bytes that a line gives a device
+abbrev pub bytes_of : DeviceBytes → DeviceScript → Option (List ℕ)
+bytes_of Desc script = script.desc
+bytes_of Config script = script.config
+bytes_of Id script = script.id
+
+abbrev pub has_bytes : DeviceBytes → Option SceneDevice → Bool
+has_bytes which None = false
+has_bytes which (Some device) = is_some (bytes_of which device.script)
+
 -- what the line declares was not declared before, and no option is repeated
-abbrev pub is_new : Scene → Statement → Bool
-is_new scene (say.Device name) = not (is_some (device_number scene name))
-is_new scene (say.Ep address kind size interval) = not (has_end (last_device scene) address)
-is_new scene (say.Urb name device address options) = not (is_some (urb_number scene name)) && are_once options
-is_new scene (say.Thread name) = not (is_some (thread_number scene name)) && not (bytes_eq name (codes "server"))
-is_new scene _ = true
+abbrev pub is_new : SoFar → Statement → Bool
+is_new so_far (say.Device name kind) = not (is_some (device_number so_far.scene name))
+is_new so_far (say.Ep address kind size interval) = not (has_end (last_device so_far.scene) address)
+is_new so_far (say.Bytes which bytes) = not (has_bytes which (last_device so_far.scene))
+is_new so_far (say.Port status) = not so_far.has_port
+is_new so_far (say.Urb name device address options) = not (is_some (urb_number so_far.scene name)) && are_once options
+is_new so_far (say.Thread name) = not (is_some (thread_number so_far.scene name)) && not (bytes_eq name (codes "server"))
+is_new so_far _ = true
 
 -- the numbers that options give, 0 where they give none
 abbrev pub len_in : List UrbOption → ℕ
@@ -148,7 +217,7 @@ calls_of (Some thread) = thread.calls
 
 -- how many rejects the script that is being read holds on the URB that a call names
 abbrev pub held_now : Scene → UrbName → ℕ
-held_now scene urb = held_on (unwrap_or (named_urb scene urb) 0) (calls_of (last_thread scene))
+held_now scene urb = held_on (urb_target scene urb) (calls_of (last_thread scene))
 
 -- the calls that raise a reject, and those that withdraw one
 abbrev pub raises : UrbCall → Bool
@@ -166,20 +235,33 @@ abbrev pub given_len : Option (List ℕ) → ℕ
 given_len None = 0
 given_len (Some bytes) = length bytes
 
+-- the most bytes that such a line may give (USB 2.0 §9.4.3: a descriptor's length is a byte, a transfer's two)
+abbrev pub most_of : DeviceBytes → ℕ
+most_of Desc = 255
+most_of Config = 65535
+most_of Id = 65535
+
+-- the number of an interface is a byte
+abbrev pub is_low : UrbName → Bool
+is_low (Scripted name) = true
+is_low (Driver device number role) = nat_le number 255
+
 -- one call more may stand in the scripts
 abbrev pub has_call_left : Scene → Bool
 has_call_left scene = nat_lt (all_calls scene) 4096
 
 -- the line passes no limit
 abbrev pub is_within : Scene → Statement → Bool
-is_within scene (say.Device name) = nat_lt (length scene.devices) 16
+is_within scene (say.Device name kind) = nat_lt (length scene.devices) 16
 is_within scene (say.Ep address kind size interval) = nat_le size 1024 && nat_le interval 255
+is_within scene (say.Bytes which bytes) = nat_le (length bytes) (most_of which)
+is_within scene (say.Port status) = true
 is_within scene (say.Answer address items) = nat_le (all_replies scene + replies_of items) 65536
 is_within scene (say.Urb name device address options) =
     nat_le (len_in options) 16384 && nat_le (again_in options) 63 && nat_lt (length scene.urbs) 256
 is_within scene (say.Thread name) = nat_lt (length scene.threads) 16
 is_within scene (say.Submit urb setup bytes) = has_call_left scene && nat_le (given_len bytes) 16384
-is_within scene (say.OnUrb call urb) = has_call_left scene && (if raises call then nat_lt (held_now scene urb) 100 else true)
+is_within scene (say.OnUrb call urb) = has_call_left scene && is_low urb && (if raises call then nat_lt (held_now scene urb) 100 else true)
 is_within scene (say.Alone call) = has_call_left scene
 
 -- a reject that is withdrawn is one that this script holds
@@ -199,11 +281,12 @@ may_call scene (say.Alone bare.Up) = is_hub (last_thread scene)
 may_call scene _ = true
 
 -- the first cause against what a line says, if there is one
-abbrev pub statement_cause : Scene → Statement → Option Cause
-statement_cause scene statement =
-    if not (names_stand scene statement) then Some cause.Name
-    else if not (is_new scene statement) then Some cause.Twice
-    else if not (is_within scene statement) then Some cause.Limit
-    else if not (holds_reject scene statement) then Some cause.Held
-    else if not (may_call scene statement) then Some cause.HubOnly
+abbrev pub statement_cause : SoFar → Statement → Option Cause
+statement_cause so_far statement =
+    if not (fits_device so_far.scene statement) then Some cause.Form
+    else if not (names_stand so_far.scene statement) then Some cause.Name
+    else if not (is_new so_far statement) then Some cause.Twice
+    else if not (is_within so_far.scene statement) then Some cause.Limit
+    else if not (holds_reject so_far.scene statement) then Some cause.Held
+    else if not (may_call so_far.scene statement) then Some cause.HubOnly
     else None

@@ -8,7 +8,8 @@ use Rattle.usb_statement.specs.declared.statement.Statement.{Statement}
 use Rattle.usb_scene.specs.declared.cause.Cause.{Cause}
 use Rattle.usb_scene.specs.declared.cause.Cause.TheVariants as cause
 use Rattle.usb_statement.specs.Statements.{keyword_of}
-use Rattle.usb_scene.specs.Growth.{scene_with}
+use Rattle.usb_scene.specs.Rules.{SoFar}
+use Rattle.usb_scene.specs.Growth.{grown_by}
 use Rattle.usb_scene.specs.Read.{Reading, plain_read, line_words, in_place}
 
 -- each of these lines, the first of them with the number after n, is good after those before it
@@ -37,20 +38,20 @@ pub record LacksHeader (bytes : List ℕ) (n : ℕ) : Type 0 where
 abbrev pub Said : Type 0
 Said = List (List ℕ) × Statement
 
--- what words say where the scene is so far, against which there is no cause
-abbrev pub said_by : Scene → List (List ℕ) → Result Statement Cause
-said_by scene [] = Err cause.Form
-said_by scene (first ∷ rest) = in_place scene (keyword_of first) rest
+-- what words say behind what was said so far, against which there is no cause
+abbrev pub said_by : SoFar → List (List ℕ) → Result Statement Cause
+said_by so_far [] = Err cause.Form
+said_by so_far (first ∷ rest) = in_place so_far (keyword_of first) rest
 
-pub record IsSaid (scene : Scene) (line : Said) : Type 0 where
+pub record IsSaid (so_far : SoFar) (line : Said) : Type 0 where
   pub texts : AreWords line.0
   pub plain : list_all is_plain (spaced line.0) ≡ true
-  pub says : said_by scene line.0 ≡ Ok line.1
+  pub says : said_by so_far line.0 ≡ Ok line.1
 
--- lines behind line n say this, one after another, and make this of the scene
-abbrev pub SaidInTurn : Scene → ℕ → List Said → Scene → Type 0
-SaidInTurn scene n [] last = scene ≡ last
-SaidInTurn scene n (line ∷ lines) last = IsSaid scene line × SaidInTurn (scene_with scene (n + 1) line.1) (n + 1) lines last
+-- lines behind line n say this, one after another, and the last of them leaves this scene
+abbrev pub SaidInTurn : SoFar → ℕ → List Said → Scene → Type 0
+SaidInTurn so_far n [] last = so_far.scene ≡ last
+SaidInTurn so_far n (line ∷ lines) last = IsSaid so_far line × SaidInTurn (grown_by so_far (n + 1) line.1) (n + 1) lines last
 
 -- the text of some lines, behind the header
 abbrev pub text_of : List Said → List ℕ

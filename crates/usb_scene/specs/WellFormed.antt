@@ -1,11 +1,17 @@
 -- What holds of every scene that is read, beyond its text: numbers are those of things that are there, names stand
 -- once, sizes and counts are within their limits, and no script withdraws a reject that it does not hold.
-use Rattle.std.specs.Prelude.{ℕ, ◌≡◌, ◌≢◌, ◌-◌, ◌<◌, ◌≤◌, ◌^◌, ◌⊎◌, ◌==◌, Bool, true, false, if◌then◌else◌, List, ◌∷◌, ◌++◌, length, slice_get, sum_by, codes, Option, Some, None}
+use Rattle.std.specs.Prelude.{ℕ, ◌≡◌, ◌≢◌, ◌-◌, ◌<◌, ◌≤◌, ◌^◌, ◌⊎◌, ◌==◌, ◌&&◌, Bool, true, false, if◌then◌else◌, List, [], ◌∷◌, ◌++◌, length, slice_get, sum_by, codes, Option, Some, None}
 use Rattle.std.specs.List.{All, list_any}
 use Rattle.std.specs.Str.{bytes_eq}
+use Rattle.usb_types.specs.declared.urb.Role.{Role}
+use Rattle.usb_types.specs.declared.urb.Role.TheVariants as role
 use Rattle.usb_machine.specs.declared.layout.EndKind.TheVariants.{Bulk, Interrupt, Iso}
 use Rattle.usb_machine.specs.declared.layout.Shape.{Shape}
+use Rattle.usb_text.specs.Written.{AreBytes}
 use Rattle.usb_xfer.specs.Direction.{goes_in}
+use Rattle.usb_xfer.specs.declared.script.DeviceScript.{DeviceScript}
+use Rattle.usb_xfer.specs.declared.script.Kind.{Kind}
+use Rattle.usb_xfer.specs.declared.script.Kind.TheVariants as kind
 use Rattle.usb_xfer.specs.declared.script.What.{What}
 use Rattle.usb_xfer.specs.declared.script.What.TheVariants.{Ack, Nak, Stall, Error, Packet}
 use Rattle.usb_xfer.specs.declared.script.Item.{Item}
@@ -45,24 +51,68 @@ pub record IsItem (address : ℕ) (item : Item) : Type 0 where
   -- at 00, where control transfers go both ways, it may be any
   pub kind : address ≢ 0 → IsItemOf (goes_in address) item.what
 
+-- the kinds of device
+abbrev pub is_raw : Kind → Bool
+is_raw kind.Raw = true
+is_raw _ = false
+
+abbrev pub is_printer : Kind → Bool
+is_printer kind.Printer = true
+is_printer _ = false
+
+-- bytes that a line gives, if it does, and no more than these
+abbrev pub AreGiven : ℕ → Option (List ℕ) → Type 0
+AreGiven most None = Unit {0}
+AreGiven most (Some bytes) = AreBytes bytes × (length bytes ≤ most)
+
+-- no packet
+abbrev pub is_packet : What → Bool
+is_packet (Packet bytes) = true
+is_packet _ = false
+
+-- at 00 it is no packet
+abbrev pub IsNoPacketAt : ℕ → Item → Type 0
+IsNoPacketAt address item = address ≡ 0 → is_packet item.what ≡ false
+
+-- the lines that a device of its kind has: a raw one endpoints, the others descriptors, and a printer its id and port status
+pub record HasOwnLines (script : DeviceScript) : Type 0 where
+  pub raw_desc : is_raw script.kind ≡ true → script.desc ≡ None
+  pub raw_config : is_raw script.kind ≡ true → script.config ≡ None
+  pub no_ends : is_raw script.kind ≡ false → script.ends ≡ []
+  pub no_packets : is_raw script.kind ≡ false → All (λ (said : Answers). All (IsNoPacketAt said.address) said.items) script.answers
+  pub no_id : is_printer script.kind ≡ false → script.id ≡ None
+  pub usual_port : is_printer script.kind ≡ false → script.port ≡ 24
+  pub desc : AreGiven 255 script.desc
+  pub config : AreGiven 65535 script.config
+  pub id : AreGiven 65535 script.id
+  pub port : script.port < 256
+
 pub record IsDevice (d : ℕ) (device : SceneDevice) : Type 0 where
   pub ends : All (IsEnd d) device.script.ends
   pub once : (i j : ℕ) (a b : Shape) → slice_get device.script.ends i ≡ Some a → slice_get device.script.ends j ≡ Some b → a.address ≡ b.address → i ≡ j
   pub answers : All (λ (said : Answers). All (IsItem said.address) said.items) device.script.answers
+  pub own : HasOwnLines device.script
 
--- the address is 00, which each device has, or that of an endpoint of the URB's device
+-- a raw device, and its address 00, which each has, or that of one of its endpoints
 abbrev pub HasEnd : ℕ → Option SceneDevice → Type 0
 HasEnd address None = ⊥
-HasEnd address (Some device) = (address ≡ 0) ⊎ (list_any (λ (shape : Shape). shape.address == address) device.script.ends ≡ true)
+HasEnd address (Some device) =
+    (is_raw device.script.kind ≡ true) × ((address ≡ 0) ⊎ (list_any (λ (shape : Shape). shape.address == address) device.script.ends ≡ true))
+
+-- a device that isn't raw, so that drivers may have URBs of it
+abbrev pub HasDrivers : Option SceneDevice → Type 0
+HasDrivers None = ⊥
+HasDrivers (Some device) = is_raw device.script.kind ≡ false
 
 pub record IsUrb (s : Scene) (urb : SceneUrb) : Type 0 where
   pub home : HasEnd urb.address (slice_get s.devices urb.device)
   pub len : urb.len ≤ 16384
   pub again : urb.again ≤ 63
 
--- the calls that are built: 1 to 7 on an URB, and 8, 21 and 22 on nothing
+-- the calls that are built: 1 to 7 on an URB, 2 to 7 on one of a driver, and 8, 21 and 22 on nothing
 abbrev pub IsBuilt : Scene → ℕ → Target → Type 0
 IsBuilt s code (target.Urb u) = (1 ≤ code) × (code ≤ 7) × (u < length s.urbs)
+IsBuilt s code (target.Role d interface r) = (2 ≤ code) × (code ≤ 7) × (interface ≤ 255) × HasDrivers (slice_get s.devices d)
 IsBuilt s code target.Nothing = (code ≡ 8) ⊎ (code ≡ 21) ⊎ (code ≡ 22)
 IsBuilt s code _ = ⊥
 
@@ -77,26 +127,40 @@ pub record IsCall (s : Scene) (c : Call) : Type 0 where
   pub setup : c.code ≢ 1 → c.setup ≡ None
   pub bytes : IsBuffer c.bytes
 
-abbrev pub is_on : ℕ → Target → Bool
-is_on u (target.Urb v) = v == u
-is_on u _ = false
+-- the roles of a driver's URBs, numbered
+abbrev pub role_number : Role → ℕ
+role_number role.In = 0
+role_number role.Note = 1
+role_number role.Read0 = 2
+role_number role.Read1 = 3
+role_number role.Write = 4
+role_number role.Ctl = 5
+
+-- whether both are one URB, one anchor or one device
+abbrev pub is_on : Target → Target → Bool
+is_on (target.Urb u) (target.Urb v) = v == u
+is_on (target.Role d i r) (target.Role e j q) = e == d && j == i && role_number q == role_number r
+is_on (target.Anchor a) (target.Anchor b) = b == a
+is_on (target.Device d) (target.Device e) = e == d
+is_on target.Nothing target.Nothing = true
+is_on _ _ = false
 
 -- how many rejects a call raises on an URB: poison and block one
-abbrev pub raised : ℕ → Call → ℕ
-raised u c = if is_on u c.target then (if c.code == 4 then 1 else if c.code == 6 then 1 else 0) else 0
+abbrev pub raised : Target → Call → ℕ
+raised urb c = if is_on urb c.target then (if c.code == 4 then 1 else if c.code == 6 then 1 else 0) else 0
 
 -- and how many it withdraws: unpoison and unblock one
-abbrev pub withdrawn : ℕ → Call → ℕ
-withdrawn u c = if is_on u c.target then (if c.code == 5 then 1 else if c.code == 7 then 1 else 0) else 0
+abbrev pub withdrawn : Target → Call → ℕ
+withdrawn urb c = if is_on urb c.target then (if c.code == 5 then 1 else if c.code == 7 then 1 else 0) else 0
 
--- how many rejects a script holds on URB u after some calls
-abbrev pub held_on : ℕ → List Call → ℕ
-held_on u calls = sum_by (raised u) calls - sum_by (withdrawn u) calls
+-- how many rejects a script holds on an URB after some calls
+abbrev pub held_on : Target → List Call → ℕ
+held_on urb calls = sum_by (raised urb) calls - sum_by (withdrawn urb) calls
 
 -- each call that withdraws finds a reject of its script, and never more than 100 are held
 pub record AreHeld (calls : List Call) : Type 0 where
-  pub held : (before : List Call) (c : Call) (behind : List Call) (u : ℕ) → calls ≡ before ++ c ∷ behind → withdrawn u c ≡ 1 → 0 < held_on u before
-  pub most : (before behind : List Call) (u : ℕ) → calls ≡ before ++ behind → held_on u before ≤ 100
+  pub held : (before : List Call) (c : Call) (behind : List Call) (urb : Target) → calls ≡ before ++ c ∷ behind → withdrawn urb c ≡ 1 → 0 < held_on urb before
+  pub most : (before behind : List Call) (urb : Target) → calls ≡ before ++ behind → held_on urb before ≤ 100
 
 abbrev pub is_hub_call : ℕ → Bool
 is_hub_call code = if code == 21 then true else if code == 22 then true else false

@@ -4,24 +4,25 @@ ghost use Rattle.std.specs.List.{list_any};
 ghost use Rattle.usb_scene.specs.Rules.{is_within, is_short, len_in, again_in};
 ghost use Rattle.usb_types.specs.Table.{code_at};
 ghost use Rattle.usb_types.specs.Rows.{call_table};
-ghost use Rattle.usb_scene.specs.Named.{called_urb};
-ghost use Rattle.usb_scene.specs.Growth.{bare_device, end_said, on_last, with_end, joined, with_answers, urb_said, plain_call, urb_call_code, bare_call_code, with_call, scene_with};
+ghost use Rattle.usb_scene.specs.Named.{called_target};
+ghost use Rattle.usb_scene.specs.Growth.{bare_device, end_said, on_last, with_end, with_bytes, with_port, joined, with_answers, urb_said, plain_call, urb_call_code, bare_call_code, with_call, last_changed, scene_declares, scene_with};
 
 use crate::rules::device_number;
 use crate::scene::{Call, Scene, SceneDevice, SceneThread, SceneUrb, Target};
 use std::alloc::Global;
 use usb_machine::{EndKind, Shape};
-use usb_statement::{BareCall, Statement, UrbCall, UrbOption};
+use usb_statement::{BareCall, DeviceBytes, Statement, UrbCall, UrbOption};
 use usb_types::{Buf, List, Memory, calls, code_of};
 use usb_xfer::{Answers, DeviceScript, Kind};
 
+// Selected, and no error (printer class 1.1, §4.2.2).
 const USUAL_PORT_STATUS: u8 = 0x18;
 
-fn bare_device(alloc: Global, name: Buf) -> SceneDevice
-    ensures { result ≡ bare_device name }
+fn bare_device(alloc: Global, name: Buf, kind: Kind) -> SceneDevice
+    ensures { result ≡ bare_device name kind }
 {
     let script = DeviceScript {
-        kind: Kind::Raw,
+        kind,
         ends: List::of(Vec::new(alloc)),
         desc: None,
         config: None,
@@ -48,12 +49,64 @@ fn end_said(scene: &Scene, address: u8, kind: EndKind, size: u32, interval: u32)
 }
 
 #[tactic(auto, using(crate::proofs::Scenes::on_last_push))]
-fn add_end(devices: &mut List<SceneDevice>, end: Shape) -> Result<(), Memory>
+fn push_end(devices: &mut List<SceneDevice>, end: Shape) -> Result<(), Memory>
     ensures { OnOk result (devices.new ≡ on_last (with_end end) devices.old) }
 {
     match devices.pop() {
         Some(mut device) => {
             device.script.ends.push(end)?;
+            devices.push(device)
+        }
+        None => Ok(()),
+    }
+}
+
+fn add_end(
+    scene: &mut Scene,
+    address: u8,
+    kind: EndKind,
+    size: u32,
+    interval: u32,
+) -> Result<(), Memory>
+    requires devices { length scene.old.devices ≤ 16 }
+    requires size { size ≤ 1024 }
+    requires interval { interval ≤ 255 }
+    ensures { OnOk result (scene.new ≡ last_changed (with_end (end_said scene.old address kind size interval)) scene.old) }
+{
+    let end = end_said(scene, address, kind, size, interval);
+    push_end(&mut scene.devices, end)
+}
+
+fn give(device: &mut SceneDevice, which: DeviceBytes, bytes: Buf)
+    ensures { device.new ≡ with_bytes which bytes device.old }
+{
+    match which {
+        DeviceBytes::Desc => device.script.desc = Some(bytes),
+        DeviceBytes::Config => device.script.config = Some(bytes),
+        DeviceBytes::Id => device.script.id = Some(bytes),
+    }
+}
+
+#[tactic(auto, using(crate::proofs::Scenes::on_last_push))]
+fn add_bytes(devices: &mut List<SceneDevice>, which: DeviceBytes, bytes: Buf) -> Result<(), Memory>
+    ensures { OnOk result (devices.new ≡ on_last (with_bytes which bytes) devices.old) }
+{
+    match devices.pop() {
+        Some(mut device) => {
+            give(&mut device, which, bytes);
+            devices.push(device)
+        }
+        None => Ok(()),
+    }
+}
+
+#[tactic(auto, using(crate::proofs::Scenes::on_last_push))]
+fn set_port(devices: &mut List<SceneDevice>, status: u8) -> Result<(), Memory>
+    ensures { OnOk result (devices.new ≡ on_last (with_port status) devices.old) }
+{
+    match devices.pop() {
+        Some(mut device) => {
+            device.script.port = status;
             devices.push(device)
         }
         None => Ok(()),
@@ -199,30 +252,21 @@ fn add_call(threads: &mut List<SceneThread>, call: Call) -> Result<(), Memory>
     }
 }
 
-/// Adds to the scene what a line says, which calls this URB, if any.
-pub fn add(
-    scene: &mut Scene,
-    alloc: Global,
-    line: u32,
-    statement: Statement,
-    urb: u32,
-) -> Result<(), Memory>
+fn declare(scene: &mut Scene, alloc: Global, statement: Statement) -> Result<(), Memory>
     requires devices { length scene.old.devices ≤ 16 }
     requires within { IsTrue (is_within scene.old statement) }
-    requires called { urb ≡ called_urb scene.old statement }
-    ensures { OnOk result (scene.new ≡ scene_with scene.old line statement) }
+    ensures { OnOk result (scene.new ≡ scene_declares scene.old statement) }
 {
     match statement {
-        Statement::Device { name } => scene.devices.push(bare_device(alloc, name)),
+        Statement::Device { name, kind } => scene.devices.push(bare_device(alloc, name, kind)),
         Statement::Ep {
             address,
             kind,
             size,
             interval,
-        } => {
-            let end = end_said(scene, address, kind, size, interval);
-            add_end(&mut scene.devices, end)
-        }
+        } => add_end(scene, address, kind, size, interval),
+        Statement::Bytes { which, bytes } => add_bytes(&mut scene.devices, which, bytes),
+        Statement::Port { status } => set_port(&mut scene.devices, status),
         Statement::Answer { address, items } => {
             add_answers(&mut scene.devices, Answers { address, items })
         }
@@ -239,28 +283,36 @@ pub fn add(
             let calls = List::of(Vec::new(alloc));
             scene.threads.push(SceneThread { name, calls })
         }
+        _ => Ok(()),
+    }
+}
+
+/// Adds to the scene what a line says, which calls this URB, if any.
+pub fn add(
+    scene: &mut Scene,
+    alloc: Global,
+    line: u32,
+    statement: Statement,
+    urb: Target,
+) -> Result<(), Memory>
+    requires devices { length scene.old.devices ≤ 16 }
+    requires within { IsTrue (is_within scene.old statement) }
+    requires called { urb ≡ called_target scene.old statement }
+    ensures { OnOk result (scene.new ≡ scene_with scene.old line statement) }
+{
+    match statement {
         Statement::Submit { setup, bytes, .. } => {
-            let target = Target::Urb(urb);
-            let code = submit_code();
-            add_call(
-                &mut scene.threads,
-                plain_call(line, code, target, setup, bytes),
-            )
+            let call = plain_call(line, submit_code(), urb, setup, bytes);
+            add_call(&mut scene.threads, call)
         }
         Statement::OnUrb { call, .. } => {
-            let target = Target::Urb(urb);
-            let code = urb_call_code(call);
-            add_call(
-                &mut scene.threads,
-                plain_call(line, code, target, None, None),
-            )
+            let call = plain_call(line, urb_call_code(call), urb, None, None);
+            add_call(&mut scene.threads, call)
         }
         Statement::Alone { call } => {
-            let code = bare_call_code(call);
-            add_call(
-                &mut scene.threads,
-                plain_call(line, code, Target::Nothing, None, None),
-            )
+            let call = plain_call(line, bare_call_code(call), urb, None, None);
+            add_call(&mut scene.threads, call)
         }
+        declared => declare(scene, alloc, declared),
     }
 }

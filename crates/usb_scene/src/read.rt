@@ -47,7 +47,7 @@ fn is_header(line: &[u8]) -> bool
 #[tactic(auto, using(crate::proofs::Placed::place_said))]
 fn checked(alloc: Global, draft: &Draft, first: &[u8], rest: &[u8]) -> Result<Statement, LineFault>
     ensures exact { LineGives result (in_place draft.now (keyword_of first.now) (words rest.now)) }
-    ensures place { IfOk result (λ statement. may_stand draft.now (keyword_said statement) ≡ true) }
+    ensures place { IfOk result (λ statement. may_stand draft.now.scene (keyword_said statement) ≡ true) }
     ensures allowed { IfOk result (λ statement. statement_cause draft.now statement ≡ None) }
 {
     let Some(keyword) = read_keyword(first) else {

@@ -1,26 +1,14 @@
 //! How many rejects the script that is being read holds on each URB.
-ghost use Rattle.std.specs.Prelude.{◌≡◌, ◌≤◌, [], slice_index, replicate, IfOk};
+ghost use Rattle.std.specs.Prelude.{◌≡◌, ◌≤◌, OnOk};
 ghost use Rattle.usb_scene.specs.Rules.{raises, withdraws};
-ghost use Rattle.usb_scene.specs.Counts.{changed};
+ghost use Rattle.usb_scene.specs.Counts.{next_count, count_in, changed};
+ghost use Rattle.usb_scene.specs.declared.scene.Target.{Target};
 
+use crate::scene::Target;
 use std::alloc::Global;
-use std::marker::Model;
+use std::collections::HashMap;
 use usb_statement::UrbCall;
 use usb_types::Memory;
-
-/// A count for each URB. Contracts see the list of them.
-#[derive(Debug, Drop)]
-pub struct Rejects {
-    counts: Vec<u32>,
-}
-
-impl Model for Rejects {
-    ghost use Rattle.std.specs.Prelude.{List, ℕ};
-
-    ghost Value = { List ℕ };
-
-    ghost view = { λ r. r.counts.items };
-}
 
 /// Whether the call raises a reject.
 pub fn raises(call: UrbCall) -> bool
@@ -42,51 +30,54 @@ pub fn withdraws(call: UrbCall) -> bool
     }
 }
 
+fn next_count(call: UrbCall, count: u32) -> u32
+    requires { count ≤ 100 }
+    ensures { result ≡ next_count call count }
+{
+    if raises(call) {
+        count + 1
+    } else if withdraws(call) {
+        count.saturating_sub(1)
+    } else {
+        count
+    }
+}
+
+/// A count for each URB that was called, none elsewhere.
+#[derive(Drop)]
+pub struct Rejects {
+    counts: HashMap<Target, u32>,
+}
+
 impl Rejects {
-    /// No count.
-    pub fn of_no_urb(alloc: Global) -> Rejects
-        ensures { result ≡ [] }
+    /// No reject.
+    pub fn none(alloc: Global) -> Rejects
+        ensures { (urb : Target) → count_in result.counts urb ≡ 0 }
     {
         Rejects {
-            counts: Vec::new(alloc),
-        }
-    }
-
-    /// No reject on any of some URBs.
-    pub fn none(alloc: Global, urbs: usize) -> Result<Rejects, Memory>
-        ensures { IfOk result (λ rejects. rejects ≡ replicate urbs 0) }
-    {
-        match vec![in alloc; 0; urbs] {
-            Ok(counts) => Ok(Rejects { counts }),
-            Err(_) => Err(Memory),
+            counts: HashMap::new(alloc),
         }
     }
 
     /// How many are held on an URB.
-    pub fn held(&self, urb: usize) -> u32
-        ensures { result ≡ slice_index self.now urb }
+    pub fn held(&self, urb: Target) -> u32
+        ensures { result ≡ count_in self.now.counts urb }
     {
-        match self.counts.get(urb) {
+        match self.counts.get(&urb) {
             Some(count) => *count,
             None => 0,
         }
     }
 
     /// Counts what a call on an URB raises or withdraws.
-    pub fn change(&mut self, call: UrbCall, urb: usize)
-        requires { slice_index self.old urb ≤ 100 }
-        ensures { self.new ≡ changed call urb self.old }
+    pub fn change(&mut self, call: UrbCall, urb: Target) -> Result<(), Memory>
+        requires { count_in self.old.counts urb ≤ 100 }
+        ensures { OnOk result ((other : Target) → count_in self.new.counts other ≡ changed call urb (count_in self.old.counts) other) }
     {
-        let count = self.held(urb);
-        let next = if raises(call) {
-            count + 1
-        } else if withdraws(call) {
-            count.saturating_sub(1)
-        } else {
-            count
+        let next = next_count(call, self.held(urb));
+        let Ok(_) = self.counts.insert(urb, next) else {
+            return Err(Memory);
         };
-        if urb < self.counts.len() {
-            self.counts[urb] = next;
-        }
+        Ok(())
     }
 }

@@ -1,22 +1,31 @@
 //! What is left of the limits behind a line, and what is counted and found there.
-ghost use Rattle.std.specs.Prelude.{◌≡◌, ℕ, List, ◌-◌, ◌≤◌, ◌&&◌, nat_le, if◌then◌else◌, IfOk, Some, None, length, slice_index};
-ghost use Rattle.usb_scene.specs.Rules.{replies_of, len_in, again_in, given_len};
+ghost use Rattle.std.specs.Prelude.{◌≡◌, ℕ, List, ◌-◌, ◌≤◌, ◌&&◌, nat_le, if◌then◌else◌, IfOk, Some, None, length};
+ghost use Rattle.usb_scene.specs.Rules.{most_of, is_low, replies_of, len_in, again_in, given_len};
 ghost use Rattle.usb_scene.specs.Growth.{replies_said, calls_said};
-ghost use Rattle.usb_scene.specs.Counts.{counts_with};
-ghost use Rattle.usb_scene.specs.Named.{number_in, found_with, called_urb};
+ghost use Rattle.usb_scene.specs.Counts.{count_in, counts_behind};
+ghost use Rattle.usb_scene.specs.Named.{number_in, found_with};
+ghost use Rattle.usb_scene.specs.declared.scene.Target.{Target};
 
 use crate::growth::{again_in, len_in};
 use crate::names::Names;
 use crate::rejects::Rejects;
-use crate::scene::Scene;
+use crate::scene::{Scene, Target};
 use std::alloc::Global;
-use usb_statement::{Statement, UrbOption};
+use usb_statement::{DeviceBytes, Statement, UrbName, UrbOption};
 use usb_types::{Buf, Memory};
 use usb_xfer::Item;
 
 const MOST_AGAIN: u32 = 63;
 // In bytes.
 const MOST_BUFFER: u32 = 16384;
+
+const MOST_DESC: usize = 255;
+
+const MOST_CONFIG: usize = 65535;
+
+const MOST_ID: usize = 65535;
+
+const MOST_INTERFACE: u32 = 255;
 
 /// How many more replies may come behind those of these items.
 pub fn room_behind(items: &[Item], room: u32) -> Option<u32>
@@ -54,6 +63,27 @@ pub fn calls_behind(statement: &Statement, room: u32) -> u32
     }
 }
 
+/// The most bytes that such a line may give.
+pub fn most_of(which: DeviceBytes) -> usize
+    ensures { result ≡ most_of which }
+{
+    match which {
+        DeviceBytes::Desc => MOST_DESC,
+        DeviceBytes::Config => MOST_CONFIG,
+        DeviceBytes::Id => MOST_ID,
+    }
+}
+
+/// Whether the number of the interface that an URB's name has is a byte.
+pub fn is_low(urb: &UrbName) -> bool
+    ensures { result ≡ is_low urb.now }
+{
+    match urb {
+        UrbName::Scripted(_) => true,
+        UrbName::Driver { number, .. } => *number <= MOST_INTERFACE,
+    }
+}
+
 /// Whether a buffer holds the bytes that are given.
 pub fn is_buffer(bytes: &Option<Buf>) -> bool
     ensures { result ≡ nat_le (given_len bytes.now) 16384 }
@@ -74,20 +104,18 @@ pub fn are_low(options: &[UrbOption]) -> bool
 /// The counts of the rejects behind a line that calls this URB, if any.
 pub fn rejects_behind(
     alloc: Global,
-    scene: &Scene,
     rejects: Rejects,
     statement: &Statement,
-    urb: u32,
+    urb: Target,
 ) -> Result<Rejects, Memory>
-    requires few { (u : ℕ) → slice_index rejects u ≤ 100 }
-    requires called { urb ≡ called_urb scene.now statement.now }
-    ensures { IfOk result (λ next. next ≡ counts_with scene.now statement.now rejects) }
+    requires few { (u : Target) → count_in rejects.counts u ≤ 100 }
+    ensures { IfOk result (λ next. (u : Target) → count_in next.counts u ≡ counts_behind statement.now urb (count_in rejects.counts) u) }
 {
     match statement {
-        Statement::Thread { .. } => Rejects::none(alloc, scene.urbs.items().len()),
+        Statement::Thread { .. } => Ok(Rejects::none(alloc)),
         Statement::OnUrb { call, .. } => {
             let mut rejects = rejects;
-            rejects.change(*call, urb as usize);
+            rejects.change(*call, urb)?;
             Ok(rejects)
         }
         _ => Ok(rejects),

@@ -1,19 +1,76 @@
 //! Where a line may stand, what is declared before it, and which thread may call the hub.
 ghost use Rattle.std.specs.Prelude.{◌≡◌, ◌<◌, ◌==◌, ◌&&◌, ◌||◌, not, is_some, codes, nat_le, count_by, length, IfSome};
-ghost use Rattle.std.specs.List.{list_any};
+ghost use Rattle.std.specs.List.{list_all, list_any};
 ghost use Rattle.std.specs.Str.{bytes_eq};
 ghost use Rattle.usb_machine.specs.declared.layout.Shape.{Shape};
-ghost use Rattle.usb_scene.specs.Rules.{in_devices, may_stand, device_number, thread_number, has_end, has_address, last_device, numbered_device, is_len, is_again, is_short, are_once, is_hub, last_thread, may_call};
+ghost use Rattle.usb_scene.specs.WellFormed.{is_raw, is_printer, is_packet};
+ghost use Rattle.usb_scene.specs.Rules.{in_devices, last_device, is_of, is_classed, takes, may_stand, fits_device, device_number, thread_number, has_end, has_address, may_answer, is_home, driven_number, numbered_device, bytes_of, has_bytes, is_len, is_again, is_short, are_once, is_hub, last_thread, may_call};
 
 use crate::scene::Scene;
 use usb_machine::Shape;
-use usb_statement::{BareCall, Keyword, Statement, UrbOption};
+use usb_statement::{BareCall, DeviceBytes, Keyword, Statement, UrbOption};
 use usb_text::is_text;
+use usb_xfer::{DeviceScript, Item, Kind, What};
 
 fn in_devices(scene: &Scene) -> bool
     ensures { result ≡ in_devices scene.now }
 {
     scene.urbs.items().is_empty() && scene.threads.items().is_empty()
+}
+
+fn is_raw(kind: Kind) -> bool
+    ensures { result ≡ is_raw kind }
+{
+    match kind {
+        Kind::Raw => true,
+        _ => false,
+    }
+}
+
+fn is_printer(kind: Kind) -> bool
+    ensures { result ≡ is_printer kind }
+{
+    match kind {
+        Kind::Printer => true,
+        _ => false,
+    }
+}
+
+// Whether such bytes belong to a device of this kind.
+fn takes(which: DeviceBytes, kind: Kind) -> bool
+    ensures { result ≡ takes which kind }
+{
+    match which {
+        DeviceBytes::Desc | DeviceBytes::Config => !is_raw(kind),
+        DeviceBytes::Id => is_printer(kind),
+    }
+}
+
+fn last_is_raw(scene: &Scene) -> bool
+    ensures { result ≡ is_of is_raw (last_device scene.now) }
+{
+    match scene.devices.items().last() {
+        Some(device) => is_raw(device.script.kind),
+        None => false,
+    }
+}
+
+fn last_is_printer(scene: &Scene) -> bool
+    ensures { result ≡ is_of is_printer (last_device scene.now) }
+{
+    match scene.devices.items().last() {
+        Some(device) => is_printer(device.script.kind),
+        None => false,
+    }
+}
+
+fn last_takes(scene: &Scene, which: DeviceBytes) -> bool
+    ensures { result ≡ is_of (takes which) (last_device scene.now) }
+{
+    match scene.devices.items().last() {
+        Some(device) => takes(which, device.script.kind),
+        None => false,
+    }
 }
 
 /// Whether a line with this first word may stand where the scene is so far.
@@ -22,10 +79,40 @@ pub fn may_stand(scene: &Scene, keyword: Keyword) -> bool
 {
     match keyword {
         Keyword::Device => in_devices(scene),
-        Keyword::Ep | Keyword::Answer => { !scene.devices.items().is_empty() && in_devices(scene) }
+        Keyword::Ep => last_is_raw(scene) && in_devices(scene),
+        Keyword::Bytes(which) => last_takes(scene, which) && in_devices(scene),
+        Keyword::Port => last_is_printer(scene) && in_devices(scene),
+        Keyword::Answer => !scene.devices.items().is_empty() && in_devices(scene),
         Keyword::Urb => scene.threads.items().is_empty(),
         Keyword::Thread => true,
         _ => !scene.threads.items().is_empty(),
+    }
+}
+
+fn is_packet(what: &What) -> bool
+    ensures { result ≡ is_packet what.now }
+{
+    match what {
+        What::Packet(_) => true,
+        _ => false,
+    }
+}
+
+fn has_no_packet(items: &[Item]) -> bool
+    ensures { result ≡ list_all (λ (item : Item). not (is_packet item.what)) items.now }
+{
+    items.iter().all(|item| !is_packet(&item.what))
+}
+
+/// Whether the device whose lines are being read can give what a line says that it answers.
+pub fn fits_device(scene: &Scene, statement: &Statement) -> bool
+    ensures { result ≡ fits_device scene.now statement.now }
+{
+    match statement {
+        Statement::Answer { address, items } => {
+            *address != 0 || last_is_raw(scene) || has_no_packet(items.items())
+        }
+        _ => true,
     }
 }
 
@@ -72,22 +159,67 @@ fn has_address(ends: &[Shape], address: u8) -> bool
     address == 0 || has_end(ends, address)
 }
 
-/// Whether the address is one of the device whose lines are being read.
-pub fn last_has_address(scene: &Scene, address: u8) -> bool
-    ensures { result ≡ has_address (last_device scene.now) address }
+fn may_answer(script: &DeviceScript, address: u8) -> bool
+    ensures { result ≡ (is_classed script.now.kind || (address == 0 || list_any (λ (e : Shape). e.address == address) script.now.ends)) }
+{
+    !is_raw(script.kind) || has_address(script.ends.items(), address)
+}
+
+/// Whether the device whose lines are being read answers at the address.
+pub fn last_may_answer(scene: &Scene, address: u8) -> bool
+    ensures { result ≡ may_answer (last_device scene.now) address }
 {
     match scene.devices.items().last() {
-        Some(device) => has_address(device.script.ends.items(), address),
+        Some(device) => may_answer(&device.script, address),
         None => false,
     }
 }
 
-/// Whether the address is one of the device with this name.
-pub fn named_has_address(scene: &Scene, device: &[u8], address: u8) -> bool
-    ensures { result ≡ has_address (numbered_device scene.now (device_number scene.now device.now)) address }
+fn is_home(script: &DeviceScript, address: u8) -> bool
+    ensures { result ≡ (is_raw script.now.kind && (address == 0 || list_any (λ (e : Shape). e.address == address) script.now.ends)) }
+{
+    is_raw(script.kind) && has_address(script.ends.items(), address)
+}
+
+/// Whether a line may declare an URB at the address of the device with this name.
+pub fn named_is_home(scene: &Scene, device: &[u8], address: u8) -> bool
+    ensures { result ≡ is_home (numbered_device scene.now (device_number scene.now device.now)) address }
 {
     match device_number(scene, device) {
-        Some(number) => has_address(scene.devices.items()[number].script.ends.items(), address),
+        Some(number) => is_home(&scene.devices.items()[number].script, address),
+        None => false,
+    }
+}
+
+/// The number of the device with this name, where drivers have its URBs.
+pub fn driven_number(scene: &Scene, name: &[u8]) -> Option<usize>
+    ensures value { result ≡ driven_number scene.now name.now }
+    ensures within { IfSome result (λ number. number < length scene.now.devices) }
+{
+    let number = device_number(scene, name)?;
+    if is_raw(scene.devices.items()[number].script.kind) {
+        None
+    } else {
+        Some(number)
+    }
+}
+
+fn are_given(script: &DeviceScript, which: DeviceBytes) -> bool
+    ensures { result ≡ is_some (bytes_of which script.now) }
+{
+    match which {
+        DeviceBytes::Desc => script.desc.is_some(),
+        DeviceBytes::Config => script.config.is_some(),
+        DeviceBytes::Id => script.id.is_some(),
+    }
+}
+
+/// Whether a line gave such bytes to the device whose lines are being read.
+pub fn last_has_bytes(scene: &Scene, which: DeviceBytes) -> bool
+    ensures { result ≡ has_bytes which (last_device scene.now) }
+{
+    match scene.devices.items().last() {
+        Some(device) => are_given(&device.script, which),
         None => false,
     }
 }

@@ -57,7 +57,7 @@ pub struct Call {
 }
 
 /// What a call is made on.
-#[derive(Clone, Copy, Debug, PartialEq, Eq)]
+#[derive(Clone, Copy, Debug, PartialEq, Eq, Hash)]
 pub enum Target {
     Nothing,
     Urb(u32),

@@ -2,7 +2,7 @@
 ghost use Rattle.std.specs.Prelude.{◌≡◌, ◌⊎◌, ℕ, List, Err, Ok};
 ghost use Rattle.usb_scene.specs.declared.scene.Scene.{Scene};
 ghost use Rattle.usb_scene.specs.declared.cause.Cause.{Cause};
-ghost use Rattle.usb_scene.specs.Growth.{empty_scene};
+ghost use Rattle.usb_scene.specs.Growth.{nothing_said};
 ghost use Rattle.usb_scene.specs.Read.{scene_of};
 ghost use Rattle.usb_scene.specs.PrintedScene.{AllowedInTurn, printed_text};
 ghost use Rattle.usb_statement.specs.declared.statement.Statement.{Statement};
@@ -15,10 +15,10 @@ pub fn reports_first_bad_line()
 
 /// A text of lines reads as the scene that the lines say.
 pub fn text_reads_back()
-    ensures { (lines : List Said) (scene : Scene) → SaidInTurn empty_scene 1 lines scene → scene_of (text_of lines) ≡ Ok scene }
+    ensures { (lines : List Said) (scene : Scene) → SaidInTurn nothing_said 1 lines scene → scene_of (text_of lines) ≡ Ok scene }
 {}
 
 /// A scene that is printed from statements, each of which may come where it comes, is read again.
 pub fn a_printed_scene_reads_back()
-    ensures { (statements : List Statement) (scene : Scene) → AllowedInTurn empty_scene 1 statements scene → scene_of (printed_text statements) ≡ Ok scene }
+    ensures { (statements : List Statement) (scene : Scene) → AllowedInTurn nothing_said 1 statements scene → scene_of (printed_text statements) ≡ Ok scene }
 {}

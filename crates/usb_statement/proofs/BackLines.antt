@@ -7,24 +7,31 @@ use Rattle.std.specs.List.{flat_map}
 use Rattle.std.proofs.lemmas.Bool.{and_from, not_from_false}
 use Rattle.usb_text.specs.Kinds.{number_of, address_of}
 use Rattle.usb_text.specs.Print.{hex_pair}
-use Rattle.usb_text.proofs.Back.{number_of-decimal, address_of-hex_pair}
+use Rattle.usb_text.proofs.Back.{number_of-decimal, byte_of-hex_pair, address_of-hex_pair}
 use Rattle.usb_statement.specs.Items.{items_of, are_items_of}
 use Rattle.usb_statement.specs.Options.{options_of}
 use Rattle.usb_statement.specs.UrbNames.{name_of}
 use Rattle.usb_statement.specs.Setups.{setup_first, behind_setup}
-use Rattle.usb_statement.specs.Statements.{kind_of, sent_of, is_empty, answer_with, keyword_of, keyword_said, statement_of}
+use Rattle.usb_statement.specs.Statements.{device_kind_of, kind_of, sent_of, is_empty, answer_with, keyword_of, keyword_said, statement_of}
 use Rattle.usb_statement.specs.Sayable.{IsSayable}
-use Rattle.usb_statement.specs.Printed.{keyword_text, kind_text, item_text, option_words, setup_words, sent_words, words_said}
+use Rattle.usb_statement.specs.Printed.{keyword_text, device_kind_text, kind_text, item_text, option_words, setup_words, sent_words, words_said}
 use Rattle.usb_statement.specs.declared.statement.Statement.{Statement}
 use Rattle.usb_statement.specs.declared.statement.Statement.TheVariants as say
 use Rattle.usb_statement.specs.declared.keyword.Keyword.{Keyword}
 use Rattle.usb_statement.specs.declared.keyword.Keyword.TheVariants as word
+use Rattle.usb_statement.specs.declared.keyword.DeviceBytes.{DeviceBytes}
+use Rattle.usb_statement.specs.declared.keyword.DeviceBytes.TheVariants.{Desc, Config, Id}
 use Rattle.usb_statement.specs.declared.keyword.UrbCall.{UrbCall}
 use Rattle.usb_statement.specs.declared.keyword.UrbCall.TheVariants.{Unlink, Kill, Poison, Unpoison, Block, Unblock}
 use Rattle.usb_statement.specs.declared.keyword.BareCall.{BareCall}
 use Rattle.usb_statement.specs.declared.keyword.BareCall.TheVariants.{Serve, Down, Up}
-use Rattle.usb_statement.proofs.BackWords.{back_name, back_end, back_kind, back_items, back_options, back_urb, back_sent}
+use Rattle.usb_statement.proofs.BackWords.{back_name, back_device_kind, back_end, back_kind, back_items, back_options, back_urb, back_kept, back_sent}
 use Rattle.usb_statement.proofs.Setups.{back_first, back_behind}
+
+back_device_bytes : (which : DeviceBytes) → keyword_of (keyword_text (word.Bytes which)) ≡ Some (word.Bytes which)
+back_device_bytes Desc = refl
+back_device_bytes Config = refl
+back_device_bytes Id = refl
 
 back_on_urb : (call : UrbCall) → keyword_of (keyword_text (word.OnUrb call)) ≡ Some (word.OnUrb call)
 back_on_urb Unlink = refl
@@ -43,6 +50,8 @@ back_alone Up = refl
 pub back_keyword : (keyword : Keyword) → keyword_of (keyword_text keyword) ≡ Some keyword
 back_keyword word.Device = refl
 back_keyword word.Ep = refl
+back_keyword (word.Bytes which) = back_device_bytes which
+back_keyword word.Port = refl
 back_keyword word.Answer = refl
 back_keyword word.Urb = refl
 back_keyword word.Thread = refl
@@ -52,12 +61,16 @@ back_keyword (word.Alone call) = back_alone call
 
 -- the words behind it
 pub back_words : (st : Statement) → IsSayable st → statement_of (keyword_said st) (words_said st) ≡ Some st
-back_words (say.Device name) h = ap (λ o. option_and_then (λ n. Some (say.Device n)) o) (back_name name h)
+back_words (say.Device name kind) h =
+    ap (λ o. option_and_then (λ n. option_and_then (λ k. Some (say.Device n k)) (device_kind_of (device_kind_text kind))) o) (back_name name h)
+    ∙ ap (λ o. option_and_then (λ k. Some (say.Device name k)) o) (back_device_kind kind)
 back_words (say.Ep address kind size interval) h =
     ap (λ o. option_and_then (λ a. option_and_then (λ k. option_and_then (λ s. option_and_then (λ i. Some (say.Ep a k s i)) (number_of (fmt.decimal interval))) (number_of (fmt.decimal size))) (kind_of (kind_text kind))) o) (back_end address h.address_of_end)
     ∙ ap (λ o. option_and_then (λ k. option_and_then (λ s. option_and_then (λ i. Some (say.Ep address k s i)) (number_of (fmt.decimal interval))) (number_of (fmt.decimal size))) o) (back_kind kind h.kind_of_end)
     ∙ ap (λ o. option_and_then (λ s. option_and_then (λ i. Some (say.Ep address kind s i)) (number_of (fmt.decimal interval))) o) (number_of-decimal size h.size_number)
     ∙ ap (λ o. option_and_then (λ i. Some (say.Ep address kind size i)) o) (number_of-decimal interval h.interval_number)
+back_words (say.Bytes which bytes) h = ap (option_map (λ b. say.Bytes which b)) (back_kept bytes h)
+back_words (say.Port status) h = ap (option_map (λ b. say.Port b)) (byte_of-hex_pair status h)
 back_words (say.Answer address items) h =
     ap (λ o. option_and_then (λ a. option_and_then (λ is. answer_with a is) (items_of (map item_text items))) o) (address_of-hex_pair address h.valid)
     ∙ ap (λ o. option_and_then (λ is. answer_with address is) o) (back_items items h.each)

@@ -17,19 +17,20 @@ use Rattle.usb_machine.specs.declared.layout.EndKind.TheVariants.{Control, Bulk,
 use Rattle.usb_text.specs.Kinds.{number_of, is_name, is_name_byte}
 use Rattle.usb_text.specs.Bytes.{cut}
 use Rattle.usb_text.specs.Print.{hex_pair, hex_text}
-use Rattle.usb_text.specs.Written.{AreBytes}
 use Rattle.usb_text.proofs.Back.{own, number_of-decimal, address_of-hex_pair}
 use Rattle.usb_text.proofs.BackBytes.{data_of-hex_text, payload_of-packet_text}
 use Rattle.usb_text.proofs.Cuts.{cut-append, digits_lack, names_lack}
 use Rattle.usb_xfer.specs.declared.script.What.{What}
 use Rattle.usb_xfer.specs.declared.script.What.TheVariants.{Ack, Nak, Stall, Error, Packet}
 use Rattle.usb_xfer.specs.declared.script.Item.{Item}
+use Rattle.usb_xfer.specs.declared.script.Kind.{Kind}
+use Rattle.usb_xfer.specs.declared.script.Kind.TheVariants.{Raw, Keyboard, Acm, Printer}
 use Rattle.usb_statement.specs.Items.{what_of, times_of, item_parts, item_of, items_of}
 use Rattle.usb_statement.specs.Options.{number_option, options_of}
 use Rattle.usb_statement.specs.UrbNames.{name_of, role_of, role_parts, driver_parts, urb_name_of}
-use Rattle.usb_statement.specs.Statements.{end_of, kind_of, sent_of}
-use Rattle.usb_statement.specs.Sayable.{IsEndAddress, is_end_kind, IsPacket, IsSayableItem, IsSayableOption, IsUrbName, IsSent}
-use Rattle.usb_statement.specs.Printed.{kind_text, role_text, what_text, item_text, option_words, urb_text, sent_words}
+use Rattle.usb_statement.specs.Statements.{device_kind_of, end_of, kind_of, kept_data, sent_of}
+use Rattle.usb_statement.specs.Sayable.{IsEndAddress, is_end_kind, IsPacket, IsSayableItem, IsSayableOption, IsUrbName, IsKept, IsSent}
+use Rattle.usb_statement.specs.Printed.{device_kind_text, kind_text, role_text, what_text, item_text, option_words, urb_text, sent_words}
 use Rattle.usb_statement.specs.declared.options.UrbOption.{UrbOption}
 use Rattle.usb_statement.specs.declared.options.UrbOption.TheVariants.{Len, Again, Short}
 use Rattle.usb_statement.specs.declared.urb_name.UrbName.{UrbName}
@@ -37,6 +38,12 @@ use Rattle.usb_statement.specs.declared.urb_name.UrbName.TheVariants.{Scripted, 
 
 pub back_name : (name : List ℕ) → is_name name ≡ true → name_of name ≡ Some name
 back_name name h = ap (λ t. cond t (Some name) None) h
+
+pub back_device_kind : (kind : Kind) → device_kind_of (device_kind_text kind) ≡ Some kind
+back_device_kind Raw = refl
+back_device_kind Keyboard = refl
+back_device_kind Acm = refl
+back_device_kind Printer = refl
 
 pub back_end : (address : ℕ) → IsEndAddress address → end_of (hex_pair address) ≡ Some address
 back_end address h =
@@ -127,12 +134,12 @@ back_urb (Driver device number r) h =
     ∙ ap (λ o. option_and_then (λ n. option_and_then (λ role. Some (Driver device n role)) (role_of (role_text r))) o) (number_of-decimal number h.1)
     ∙ ap (λ o. option_and_then (λ role. Some (Driver device number role)) o) (back_role r)
 
-back_data : (bytes : List ℕ) → AreBytes bytes → length bytes ≤ 16385 → sent_of (hex_text bytes ∷ []) ≡ Some (Some bytes)
-back_data bytes h few =
-    ap (λ o. option_map (λ b. Some b) (option_map (λ b. take 16385 b) (option_and_then (λ b. Some (b ++ [])) o))) (data_of-hex_text bytes h)
-    ∙ ap (λ b. Some (Some (take 16385 b))) (append-nil bytes)
-    ∙ ap (λ b. Some (Some b)) (take_all 16385 bytes few)
+pub back_kept : (bytes : List ℕ) → IsKept bytes → kept_data (hex_text bytes ∷ []) ≡ Some bytes
+back_kept bytes h =
+    ap (λ o. option_map (λ b. take 65536 b) (option_and_then (λ b. Some (b ++ [])) o)) (data_of-hex_text bytes h.0)
+    ∙ ap (λ b. Some (take 65536 b)) (append-nil bytes)
+    ∙ ap Some (take_all 65536 bytes h.1)
 
 pub back_sent : (sent : Option (List ℕ)) → IsSent sent → sent_of (sent_words sent) ≡ Some sent
 back_sent None h = refl
-back_sent (Some bytes) h = back_data bytes h.0 h.1
+back_sent (Some bytes) h = ap (option_map (λ b. Some b)) (back_kept bytes h)

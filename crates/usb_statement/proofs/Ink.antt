@@ -23,9 +23,11 @@ use Rattle.usb_text.proofs.Cuts.{list_all-weaker}
 use Rattle.usb_xfer.specs.declared.script.What.{What}
 use Rattle.usb_xfer.specs.declared.script.What.TheVariants.{Ack, Nak, Stall, Error, Packet}
 use Rattle.usb_xfer.specs.declared.script.Item.{Item}
+use Rattle.usb_xfer.specs.declared.script.Kind.{Kind}
+use Rattle.usb_xfer.specs.declared.script.Kind.TheVariants.{Raw, Keyboard, Acm, Printer}
 use Rattle.usb_statement.specs.Statements.{keyword_said}
 use Rattle.usb_statement.specs.Sayable.{IsSayable, IsPacket, IsSayableItem, IsSayableOption, IsUrbName, IsSetup, IsSent}
-use Rattle.usb_statement.specs.Printed.{urb_call_text, bare_call_text, keyword_text, kind_text, role_text, what_text, item_text, option_words, urb_text, setup_words, sent_words, words_said, line_said}
+use Rattle.usb_statement.specs.Printed.{device_bytes_text, urb_call_text, bare_call_text, keyword_text, device_kind_text, kind_text, role_text, what_text, item_text, option_words, urb_text, setup_words, sent_words, words_said, line_said}
 use Rattle.usb_statement.specs.declared.options.UrbOption.{UrbOption}
 use Rattle.usb_statement.specs.declared.options.UrbOption.TheVariants.{Len, Again, Short}
 use Rattle.usb_statement.specs.declared.urb_name.UrbName.{UrbName}
@@ -34,6 +36,8 @@ use Rattle.usb_statement.specs.declared.statement.Statement.{Statement}
 use Rattle.usb_statement.specs.declared.statement.Statement.TheVariants as say
 use Rattle.usb_statement.specs.declared.keyword.Keyword.{Keyword}
 use Rattle.usb_statement.specs.declared.keyword.Keyword.TheVariants as word
+use Rattle.usb_statement.specs.declared.keyword.DeviceBytes.{DeviceBytes}
+use Rattle.usb_statement.specs.declared.keyword.DeviceBytes.TheVariants.{Desc, Config, Id}
 use Rattle.usb_statement.specs.declared.keyword.UrbCall.{UrbCall}
 use Rattle.usb_statement.specs.declared.keyword.UrbCall.TheVariants.{Unlink, Kill, Poison, Unpoison, Block, Unblock}
 use Rattle.usb_statement.specs.declared.keyword.BareCall.{BareCall}
@@ -109,6 +113,15 @@ inked_data : (bytes : List ℕ) → AreBytes bytes → IsInked (hex_text bytes)
 inked_data [] h = record { some = lit< tt; ink = refl }
 inked_data (b ∷ bytes) h = record { some = omega arith; ink = pairs_are_ink (b ∷ bytes) h }
 
+inked_byte : (b : ℕ) → b < 256 → IsInked (hex_pair b)
+inked_byte b h = record { some = omega arith; ink = pair_is_ink b h }
+
+inked_device_kind : (kind : Kind) → IsInked (device_kind_text kind)
+inked_device_kind Raw = record { some = lit< tt; ink = refl }
+inked_device_kind Keyboard = record { some = lit< tt; ink = refl }
+inked_device_kind Acm = record { some = lit< tt; ink = refl }
+inked_device_kind Printer = record { some = lit< tt; ink = refl }
+
 inked_kind : (kind : EndKind) → IsInked (kind_text kind)
 inked_kind Control = record { some = lit< tt; ink = refl }
 inked_kind Bulk = record { some = lit< tt; ink = refl }
@@ -169,6 +182,11 @@ inked_sent : (sent : Option (List ℕ)) → IsSent sent → AreInked (sent_words
 inked_sent None h = tt
 inked_sent (Some bytes) h = (inked_data bytes h.0, tt)
 
+inked_device_bytes : (which : DeviceBytes) → IsInked (device_bytes_text which)
+inked_device_bytes Desc = record { some = lit< tt; ink = refl }
+inked_device_bytes Config = record { some = lit< tt; ink = refl }
+inked_device_bytes Id = record { some = lit< tt; ink = refl }
+
 inked_on_urb : (call : UrbCall) → IsInked (urb_call_text call)
 inked_on_urb Unlink = record { some = lit< tt; ink = refl }
 inked_on_urb Kill = record { some = lit< tt; ink = refl }
@@ -185,6 +203,8 @@ inked_alone Up = record { some = lit< tt; ink = refl }
 inked_keyword : (keyword : Keyword) → IsInked (keyword_text keyword)
 inked_keyword word.Device = record { some = lit< tt; ink = refl }
 inked_keyword word.Ep = record { some = lit< tt; ink = refl }
+inked_keyword (word.Bytes which) = inked_device_bytes which
+inked_keyword word.Port = record { some = lit< tt; ink = refl }
 inked_keyword word.Answer = record { some = lit< tt; ink = refl }
 inked_keyword word.Urb = record { some = lit< tt; ink = refl }
 inked_keyword word.Thread = record { some = lit< tt; ink = refl }
@@ -193,9 +213,11 @@ inked_keyword (word.OnUrb call) = inked_on_urb call
 inked_keyword (word.Alone call) = inked_alone call
 
 inked_words : (st : Statement) → IsSayable st → AreInked (words_said st)
-inked_words (say.Device name) h = (inked_name name h, (record { some = lit< tt; ink = refl }, tt))
+inked_words (say.Device name kind) h = (inked_name name h, (inked_device_kind kind, tt))
 inked_words (say.Ep address kind size interval) h =
     (inked_address address h.address_of_end.valid, (inked_kind kind, (inked_number size h.size_number, (inked_number interval h.interval_number, tt))))
+inked_words (say.Bytes which bytes) h = (inked_data bytes h.0, tt)
+inked_words (say.Port status) h = (inked_byte status h, tt)
 inked_words (say.Answer address items) h = (inked_address address h.valid, inked_items items h.each)
 inked_words (say.Urb name device address options) h =
     (inked_name name h.named, (inked_name device h.on_device, (inked_address address h.valid, inked_options options h.each)))

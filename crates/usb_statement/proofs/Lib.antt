@@ -1,5 +1,6 @@
 pub mod BackLines
 pub mod BackWords
+mod Examples
 pub mod Ink
 pub mod Kept
 pub mod SaidLines

@@ -1,27 +1,27 @@
 -- What holds of what a line says.
 use Rattle.std.proofs.Common.{◌≡◌, ℕ, true, not, List, [], ◌∷◌, Some, subst}
-use Rattle.std.specs.Prelude.{◌&&◌, codes}
+use Rattle.std.specs.Prelude.{◌&&◌}
 use Rattle.std.specs.List.{All}
-use Rattle.std.specs.Str.{bytes_eq}
 use Rattle.std.proofs.lemmas.Bool.{and_parts, not-true}
 use Rattle.std.proofs.lemmas.Option.{option_and_then_some, same_Some}
-use Rattle.usb_text.specs.Kinds.{number_of, is_address, address_of}
+use Rattle.usb_text.specs.Kinds.{number_of, is_address, byte_of, address_of}
 use Rattle.usb_text.proofs.Known.{some_if}
-use Rattle.usb_text.proofs.KnownBytes.{small_number}
+use Rattle.usb_text.proofs.KnownBytes.{small_number, small_byte}
 use Rattle.usb_xfer.specs.declared.script.Item.{Item}
 use Rattle.usb_statement.specs.Items.{items_of, are_items_of}
 use Rattle.usb_statement.specs.Options.{options_of}
 use Rattle.usb_statement.specs.Setups.{setup_first, behind_setup}
 use Rattle.usb_statement.specs.UrbNames.{name_of, urb_name_of}
-use Rattle.usb_statement.specs.Statements.{end_of, kind_of, sent_of, is_empty, answer_with, statement_of}
+use Rattle.usb_statement.specs.Statements.{device_kind_of, end_of, kind_of, kept_data, sent_of, is_empty, answer_with, statement_of}
 use Rattle.usb_statement.specs.Sayable.{IsSayable, IsSayableItem}
 use Rattle.usb_statement.specs.declared.statement.Statement.{Statement}
 use Rattle.usb_statement.specs.declared.statement.Statement.TheVariants as say
 use Rattle.usb_statement.specs.declared.keyword.Keyword.{Keyword}
 use Rattle.usb_statement.specs.declared.keyword.Keyword.TheVariants as word
+use Rattle.usb_statement.specs.declared.keyword.DeviceBytes.{DeviceBytes}
 use Rattle.usb_statement.specs.declared.keyword.UrbCall.{UrbCall}
 use Rattle.usb_statement.specs.declared.keyword.BareCall.{BareCall}
-use Rattle.usb_statement.proofs.SaidWords.{option_map_some, said_name, said_address, said_end, said_kind, said_items, said_options, said_urb, said_sent}
+use Rattle.usb_statement.proofs.SaidWords.{option_map_some, said_name, said_address, said_end, said_kind, said_items, said_options, said_urb, said_kept, said_sent}
 use Rattle.usb_statement.proofs.Setups.{said_setup}
 
 said_device : (texts : List (List ℕ)) (st : Statement) → statement_of word.Device texts ≡ Some st → IsSayable st
@@ -29,7 +29,7 @@ said_device [] st h = cc
 said_device (name ∷ []) st h = cc
 said_device (text ∷ kind ∷ []) st h =
     option_and_then_some _ (name_of text) st h (λ name e g.
-    subst IsSayable (some_if (bytes_eq kind (codes "raw")) (say.Device name) st g).1 (said_name text name e))
+    option_and_then_some _ (device_kind_of kind) st g (λ k f i. subst IsSayable (same_Some (say.Device name k) st i) (said_name text name e)))
 said_device (text ∷ kind ∷ more ∷ texts) st h = cc
 
 said_ep : (texts : List (List ℕ)) (st : Statement) → statement_of word.Ep texts ≡ Some st → IsSayable st
@@ -49,6 +49,16 @@ said_ep (a ∷ k ∷ s ∷ i ∷ []) st h =
       interval_number = small_number i interval e4;
     })))))
 said_ep (a ∷ k ∷ s ∷ i ∷ more ∷ texts) st h = cc
+
+said_bytes : (which : DeviceBytes) (texts : List (List ℕ)) (st : Statement) → statement_of (word.Bytes which) texts ≡ Some st → IsSayable st
+said_bytes which [] st h = cc
+said_bytes which (text ∷ texts) st h =
+    option_map_some _ (kept_data (text ∷ texts)) st h (λ bytes e g. subst IsSayable g (said_kept (text ∷ texts) bytes e))
+
+said_port : (texts : List (List ℕ)) (st : Statement) → statement_of word.Port texts ≡ Some st → IsSayable st
+said_port [] st h = cc
+said_port (text ∷ []) st h = option_map_some _ (byte_of text) st h (λ status e g. subst IsSayable g (small_byte text status e))
+said_port (text ∷ more ∷ texts) st h = cc
 
 said_answer_with : (address : ℕ) (items : List Item) (st : Statement) → is_address address ≡ true → All IsSayableItem items → answer_with address items ≡ Some st → IsSayable st
 said_answer_with address items st valid each h =
@@ -104,6 +114,8 @@ said_alone call (text ∷ texts) st h = cc
 pub said_sayable : (keyword : Keyword) (texts : List (List ℕ)) (st : Statement) → statement_of keyword texts ≡ Some st → IsSayable st
 said_sayable word.Device texts st h = said_device texts st h
 said_sayable word.Ep texts st h = said_ep texts st h
+said_sayable (word.Bytes which) texts st h = said_bytes which texts st h
+said_sayable word.Port texts st h = said_port texts st h
 said_sayable word.Answer texts st h = said_answer texts st h
 said_sayable word.Urb texts st h = said_urb_line texts st h
 said_sayable word.Thread texts st h = said_thread texts st h

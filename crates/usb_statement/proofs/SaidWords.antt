@@ -22,7 +22,7 @@ use Rattle.usb_statement.specs.Items.{what_of, times_of, item_parts, item_of, it
 use Rattle.usb_statement.specs.Options.{number_option, options_of}
 use Rattle.usb_statement.specs.UrbNames.{name_of, role_of, role_parts, driver_parts, urb_name_of}
 use Rattle.usb_statement.specs.Statements.{end_of, kind_of, joined_data, kept_data, sent_of}
-use Rattle.usb_statement.specs.Sayable.{IsNumber, IsEndAddress, is_end_kind, IsPacket, IsSayableItem, IsSayableOption, IsUrbName, IsSent}
+use Rattle.usb_statement.specs.Sayable.{IsNumber, IsEndAddress, is_end_kind, IsPacket, IsSayableItem, IsSayableOption, IsUrbName, IsKept, IsSent}
 use Rattle.usb_statement.specs.declared.options.UrbOption.{UrbOption}
 use Rattle.usb_statement.specs.declared.options.UrbOption.TheVariants.{Len, Again, Short}
 use Rattle.usb_statement.specs.declared.urb_name.UrbName.{UrbName}
@@ -153,11 +153,11 @@ said_data (text ∷ texts) bytes h =
     option_and_then_some _ (joined_data texts) bytes g (λ others e2 g2.
     subst AreBytes (same_Some (front ++ others) bytes g2) (All-append (λ b. b < 256) front others (data_are_bytes text front e) (said_data texts others e2))))
 
-said_kept : (texts : List (List ℕ)) (bytes : List ℕ) → kept_data texts ≡ Some bytes → IsSent (Some bytes)
+pub said_kept : (texts : List (List ℕ)) (bytes : List ℕ) → kept_data texts ≡ Some bytes → IsKept bytes
 said_kept texts bytes h =
     option_map_some _ (joined_data texts) bytes h (λ all e g.
-    let short : length (take 16385 all) ≤ 16385 = omega (arith, length-take 16385 all) in
-    subst (λ x. AreBytes x × (length x ≤ 16385)) g (All-take (λ b. b < 256) 16385 all (said_data texts all e), short))
+    let short : length (take 65536 all) ≤ 65536 = omega (arith, length-take 65536 all) in
+    subst IsKept g (All-take (λ b. b < 256) 65536 all (said_data texts all e), short))
 
 pub said_sent : (texts : List (List ℕ)) (sent : Option (List ℕ)) → sent_of texts ≡ Some sent → IsSent sent
 said_sent [] sent h = subst IsSent (same_Some None sent h) tt

@@ -10,6 +10,8 @@ use Rattle.usb_text.specs.Written.{packet_text}
 use Rattle.usb_xfer.specs.declared.script.What.{What}
 use Rattle.usb_xfer.specs.declared.script.What.TheVariants.{Ack, Nak, Stall, Error, Packet}
 use Rattle.usb_xfer.specs.declared.script.Item.{Item}
+use Rattle.usb_xfer.specs.declared.script.Kind.{Kind}
+use Rattle.usb_xfer.specs.declared.script.Kind.TheVariants.{Raw, Keyboard, Acm, Printer}
 use Rattle.usb_statement.specs.Statements.{keyword_said}
 use Rattle.usb_statement.specs.declared.options.UrbOption.{UrbOption}
 use Rattle.usb_statement.specs.declared.options.UrbOption.TheVariants.{Len, Again, Short}
@@ -19,10 +21,17 @@ use Rattle.usb_statement.specs.declared.statement.Statement.{Statement}
 use Rattle.usb_statement.specs.declared.statement.Statement.TheVariants as say
 use Rattle.usb_statement.specs.declared.keyword.Keyword.{Keyword}
 use Rattle.usb_statement.specs.declared.keyword.Keyword.TheVariants as word
+use Rattle.usb_statement.specs.declared.keyword.DeviceBytes.{DeviceBytes}
+use Rattle.usb_statement.specs.declared.keyword.DeviceBytes.TheVariants.{Desc, Config, Id}
 use Rattle.usb_statement.specs.declared.keyword.UrbCall.{UrbCall}
 use Rattle.usb_statement.specs.declared.keyword.UrbCall.TheVariants.{Unlink, Kill, Poison, Unpoison, Block, Unblock}
 use Rattle.usb_statement.specs.declared.keyword.BareCall.{BareCall}
 use Rattle.usb_statement.specs.declared.keyword.BareCall.TheVariants.{Serve, Down, Up}
+
+abbrev pub device_bytes_text : DeviceBytes → List ℕ
+device_bytes_text Desc = codes "desc"
+device_bytes_text Config = codes "config"
+device_bytes_text Id = codes "id"
 
 abbrev pub urb_call_text : UrbCall → List ℕ
 urb_call_text Unlink = codes "unlink"
@@ -41,12 +50,21 @@ bare_call_text Up = codes "up"
 abbrev pub keyword_text : Keyword → List ℕ
 keyword_text word.Device = codes "device"
 keyword_text word.Ep = codes "ep"
+keyword_text (word.Bytes which) = device_bytes_text which
+keyword_text word.Port = codes "port"
 keyword_text word.Answer = codes "answer"
 keyword_text word.Urb = codes "urb"
 keyword_text word.Thread = codes "thread"
 keyword_text word.Submit = codes "submit"
 keyword_text (word.OnUrb call) = urb_call_text call
 keyword_text (word.Alone call) = bare_call_text call
+
+-- KIND
+abbrev pub device_kind_text : Kind → List ℕ
+device_kind_text Raw = codes "raw"
+device_kind_text Keyboard = codes "keyboard"
+device_kind_text Acm = codes "acm"
+device_kind_text Printer = codes "printer"
 
 -- TYPE; the endpoint 00 has no line
 abbrev pub kind_text : EndKind → List ℕ
@@ -96,8 +114,10 @@ sent_words (Some bytes) = hex_text bytes ∷ []
 
 -- the words behind the first one
 abbrev pub words_said : Statement → List (List ℕ)
-words_said (say.Device name) = name ∷ codes "raw" ∷ []
+words_said (say.Device name kind) = name ∷ device_kind_text kind ∷ []
 words_said (say.Ep address kind size interval) = hex_pair address ∷ kind_text kind ∷ decimal size ∷ decimal interval ∷ []
+words_said (say.Bytes which bytes) = hex_text bytes ∷ []
+words_said (say.Port status) = hex_pair status ∷ []
 words_said (say.Answer address items) = hex_pair address ∷ map item_text items
 words_said (say.Urb name device address options) = name ∷ device ∷ hex_pair address ∷ flat_map option_words options
 words_said (say.Thread name) = name ∷ []

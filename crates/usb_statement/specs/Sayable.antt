@@ -57,10 +57,14 @@ abbrev pub IsSetup : Option (List ℕ) → Type 0
 IsSetup None = Unit {0}
 IsSetup (Some bytes) = AreBytes bytes × (length bytes ≡ 8)
 
--- bytes to send, of which no more is kept than one above the most of a buffer
+-- bytes of DATA.., of which no more is kept than one above the most that any line may have
+abbrev pub IsKept : List ℕ → Type 0
+IsKept bytes = AreBytes bytes × (length bytes ≤ 65536)
+
+-- bytes to send
 abbrev pub IsSent : Option (List ℕ) → Type 0
 IsSent None = Unit {0}
-IsSent (Some bytes) = AreBytes bytes × (length bytes ≤ 16385)
+IsSent (Some bytes) = IsKept bytes
 
 pub record IsEpLine (address : ℕ) (kind : EndKind) (size interval : ℕ) : Type 0 where
   pub address_of_end : IsEndAddress address
@@ -82,8 +86,10 @@ pub record IsUrbLine (name device : List ℕ) (address : ℕ) (options : List Ur
 
 -- what holds of a statement that some line says
 abbrev pub IsSayable : Statement → Type 0
-IsSayable (say.Device name) = is_name name ≡ true
+IsSayable (say.Device name kind) = is_name name ≡ true
 IsSayable (say.Ep address kind size interval) = IsEpLine address kind size interval
+IsSayable (say.Bytes which bytes) = IsKept bytes
+IsSayable (say.Port status) = status < 256
 IsSayable (say.Answer address items) = IsAnswerLine address items
 IsSayable (say.Urb name device address options) = IsUrbLine name device address options
 IsSayable (say.Thread name) = is_name name ≡ true

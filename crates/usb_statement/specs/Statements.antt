@@ -4,9 +4,11 @@ use Rattle.std.specs.Option.{option_map}
 use Rattle.std.specs.Str.{bytes_eq}
 use Rattle.usb_machine.specs.declared.layout.EndKind.{EndKind}
 use Rattle.usb_machine.specs.declared.layout.EndKind.TheVariants.{Bulk, Interrupt, Iso}
-use Rattle.usb_text.specs.Kinds.{number_of, address_of}
+use Rattle.usb_text.specs.Kinds.{number_of, byte_of, address_of}
 use Rattle.usb_text.specs.Bytes.{data_of}
 use Rattle.usb_xfer.specs.declared.script.Item.{Item}
+use Rattle.usb_xfer.specs.declared.script.Kind.{Kind}
+use Rattle.usb_xfer.specs.declared.script.Kind.TheVariants.{Raw, Keyboard, Acm, Printer}
 use Rattle.usb_statement.specs.Chain.{◌>>=◌}
 use Rattle.usb_statement.specs.Items.{items_of, are_items_of}
 use Rattle.usb_statement.specs.Options.{options_of}
@@ -16,10 +18,20 @@ use Rattle.usb_statement.specs.declared.statement.Statement.{Statement}
 use Rattle.usb_statement.specs.declared.statement.Statement.TheVariants as say
 use Rattle.usb_statement.specs.declared.keyword.Keyword.{Keyword}
 use Rattle.usb_statement.specs.declared.keyword.Keyword.TheVariants as word
+use Rattle.usb_statement.specs.declared.keyword.DeviceBytes.{DeviceBytes}
+use Rattle.usb_statement.specs.declared.keyword.DeviceBytes.TheVariants.{Desc, Config, Id}
 use Rattle.usb_statement.specs.declared.keyword.UrbCall.{UrbCall}
 use Rattle.usb_statement.specs.declared.keyword.UrbCall.TheVariants.{Unlink, Kill, Poison, Unpoison, Block, Unblock}
 use Rattle.usb_statement.specs.declared.keyword.BareCall.{BareCall}
 use Rattle.usb_statement.specs.declared.keyword.BareCall.TheVariants.{Serve, Down, Up}
+
+-- bytes that a line gives its device
+abbrev pub device_bytes_of : List ℕ → Option DeviceBytes
+device_bytes_of text =
+    if bytes_eq text (codes "desc") then Some Desc
+    else if bytes_eq text (codes "config") then Some Config
+    else if bytes_eq text (codes "id") then Some Id
+    else None
 
 -- a call on an URB alone
 abbrev pub urb_call_of : List ℕ → Option UrbCall
@@ -40,25 +52,37 @@ bare_call_of text =
     else if bytes_eq text (codes "up") then Some Up
     else None
 
-abbrev pub call_keyword : Option UrbCall → Option BareCall → Option Keyword
-call_keyword (Some call) bare = Some (word.OnUrb call)
-call_keyword None (Some call) = Some (word.Alone call)
-call_keyword None None = None
+-- the word of a device's bytes or of a call
+abbrev pub later_keyword : Option DeviceBytes → Option UrbCall → Option BareCall → Option Keyword
+later_keyword (Some which) on bare = Some (word.Bytes which)
+later_keyword None (Some call) bare = Some (word.OnUrb call)
+later_keyword None None (Some call) = Some (word.Alone call)
+later_keyword None None None = None
 
 -- the first word
 abbrev pub keyword_of : List ℕ → Option Keyword
 keyword_of text =
     if bytes_eq text (codes "device") then Some word.Device
     else if bytes_eq text (codes "ep") then Some word.Ep
+    else if bytes_eq text (codes "port") then Some word.Port
     else if bytes_eq text (codes "answer") then Some word.Answer
     else if bytes_eq text (codes "urb") then Some word.Urb
     else if bytes_eq text (codes "thread") then Some word.Thread
     else if bytes_eq text (codes "submit") then Some word.Submit
-    else call_keyword (urb_call_of text) (bare_call_of text)
+    else later_keyword (device_bytes_of text) (urb_call_of text) (bare_call_of text)
 
 abbrev pub is_empty : {X : Type 0} → List X → Bool
 is_empty [] = true
 is_empty (x ∷ xs) = false
+
+-- KIND
+abbrev pub device_kind_of : List ℕ → Option Kind
+device_kind_of text =
+    if bytes_eq text (codes "raw") then Some Raw
+    else if bytes_eq text (codes "keyboard") then Some Keyboard
+    else if bytes_eq text (codes "acm") then Some Acm
+    else if bytes_eq text (codes "printer") then Some Printer
+    else None
 
 -- the address of an endpoint beside 00
 abbrev pub end_of : List ℕ → Option ℕ
@@ -82,9 +106,9 @@ joined_data (text ∷ texts) = do
   others ← joined_data texts
   Some (bytes ++ others)
 
--- the bytes of DATA.., of which no more is kept than one above the most of a buffer
+-- the bytes of DATA.., of which no more is kept than one above the most that any line may have
 abbrev pub kept_data : List (List ℕ) → Option (List ℕ)
-kept_data texts = option_map (λ bytes. take 16385 bytes) (joined_data texts)
+kept_data texts = option_map (λ bytes. take 65536 bytes) (joined_data texts)
 
 -- what a submit says to send, if anything
 abbrev pub sent_of : List (List ℕ) → Option (Option (List ℕ))
@@ -99,13 +123,16 @@ answer_with address items = if not (is_empty items) && are_items_of address item
 abbrev pub statement_of : Keyword → List (List ℕ) → Option Statement
 statement_of word.Device (name ∷ kind ∷ []) = do
   name ← name_of name
-  if bytes_eq kind (codes "raw") then Some (say.Device name) else None
+  kind ← device_kind_of kind
+  Some (say.Device name kind)
 statement_of word.Ep (address ∷ kind ∷ size ∷ interval ∷ []) = do
   address ← end_of address
   kind ← kind_of kind
   size ← number_of size
   interval ← number_of interval
   Some (say.Ep address kind size interval)
+statement_of (word.Bytes which) (text ∷ texts) = option_map (λ bytes. say.Bytes which bytes) (kept_data (text ∷ texts))
+statement_of word.Port (status ∷ []) = option_map (λ status. say.Port status) (byte_of status)
 statement_of word.Answer (address ∷ items) = do
   address ← address_of address
   items ← items_of items
@@ -127,8 +154,10 @@ statement_of _ _ = None
 
 -- the first word of the line that says this
 abbrev pub keyword_said : Statement → Keyword
-keyword_said (say.Device name) = word.Device
+keyword_said (say.Device name kind) = word.Device
 keyword_said (say.Ep address kind size interval) = word.Ep
+keyword_said (say.Bytes which bytes) = word.Bytes which
+keyword_said (say.Port status) = word.Port
 keyword_said (say.Answer address items) = word.Answer
 keyword_said (say.Urb name device address options) = word.Urb
 keyword_said (say.Thread name) = word.Thread

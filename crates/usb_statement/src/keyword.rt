@@ -1,9 +1,17 @@
 //! The first word of a line.
 ghost use Rattle.std.specs.Prelude.{◌≡◌};
-ghost use Rattle.usb_statement.specs.Statements.{urb_call_of, bare_call_of, call_keyword, keyword_of};
+ghost use Rattle.usb_statement.specs.Statements.{device_bytes_of, urb_call_of, bare_call_of, later_keyword, keyword_of};
 ghost use Rattle.usb_statement.specs.Printed.{urb_call_text, bare_call_text};
 
 use usb_text::is_text;
+
+/// Bytes that a line gives its device: its device descriptor, its configuration, or a printer's id.
+#[derive(Clone, Copy, Debug, PartialEq, Eq)]
+pub enum DeviceBytes {
+    Desc,
+    Config,
+    Id,
+}
 
 /// A call on an URB alone.
 #[derive(Clone, Copy, Debug, PartialEq, Eq)]
@@ -58,12 +66,28 @@ impl BareCall {
 pub enum Keyword {
     Device,
     Ep,
+    Bytes(DeviceBytes),
+    Port,
     Answer,
     Urb,
     Thread,
     Submit,
     OnUrb(UrbCall),
     Alone(BareCall),
+}
+
+fn device_bytes(word: &[u8]) -> Option<DeviceBytes>
+    ensures { result ≡ device_bytes_of word.now }
+{
+    if is_text(word, "desc") {
+        Some(DeviceBytes::Desc)
+    } else if is_text(word, "config") {
+        Some(DeviceBytes::Config)
+    } else if is_text(word, "id") {
+        Some(DeviceBytes::Id)
+    } else {
+        None
+    }
 }
 
 fn urb_call(word: &[u8]) -> Option<UrbCall>
@@ -100,13 +124,14 @@ fn bare_call(word: &[u8]) -> Option<BareCall>
     }
 }
 
-fn call_word(word: &[u8]) -> Option<Keyword>
-    ensures { result ≡ call_keyword (urb_call_of word.now) (bare_call_of word.now) }
+fn later_keyword(word: &[u8]) -> Option<Keyword>
+    ensures { result ≡ later_keyword (device_bytes_of word.now) (urb_call_of word.now) (bare_call_of word.now) }
 {
-    match (urb_call(word), bare_call(word)) {
-        (Some(call), _) => Some(Keyword::OnUrb(call)),
-        (None, Some(call)) => Some(Keyword::Alone(call)),
-        (None, None) => None,
+    match (device_bytes(word), urb_call(word), bare_call(word)) {
+        (Some(which), _, _) => Some(Keyword::Bytes(which)),
+        (None, Some(call), _) => Some(Keyword::OnUrb(call)),
+        (None, None, Some(call)) => Some(Keyword::Alone(call)),
+        (None, None, None) => None,
     }
 }
 
@@ -118,6 +143,8 @@ pub fn read_keyword(word: &[u8]) -> Option<Keyword>
         Some(Keyword::Device)
     } else if is_text(word, "ep") {
         Some(Keyword::Ep)
+    } else if is_text(word, "port") {
+        Some(Keyword::Port)
     } else if is_text(word, "answer") {
         Some(Keyword::Answer)
     } else if is_text(word, "urb") {
@@ -127,6 +154,6 @@ pub fn read_keyword(word: &[u8]) -> Option<Keyword>
     } else if is_text(word, "submit") {
         Some(Keyword::Submit)
     } else {
-        call_word(word)
+        later_keyword(word)
     }
 }

@@ -2,6 +2,7 @@
 #![tactic(auto)]
 
 mod items;
+mod kept_data;
 mod keyword;
 mod options;
 mod setup_packet;
@@ -9,7 +10,7 @@ mod statement;
 mod statement_laws;
 mod urb_name;
 
-pub use keyword::{BareCall, Keyword, UrbCall, read_keyword};
+pub use keyword::{BareCall, DeviceBytes, Keyword, UrbCall, read_keyword};
 pub use options::UrbOption;
 pub use statement::{Statement, read_statement};
 pub use statement_laws::{

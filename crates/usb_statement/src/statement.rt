@@ -1,32 +1,41 @@
 //! What a line of a scene says by itself: its first word, and the words behind it by the row of that word.
-ghost use Rattle.std.specs.Prelude.{◌≡◌, ◌≤◌, ◌∷◌, ◌++◌, [], length, take, IfOk, OnOk};
+ghost use Rattle.std.specs.Prelude.{◌≡◌, ◌∷◌, [], IfOk};
 ghost use Rattle.usb_text.specs.Words.{words};
-ghost use Rattle.usb_statement.specs.Statements.{end_of, kind_of, answer_with, kept_data, sent_of, statement_of};
+ghost use Rattle.usb_statement.specs.Statements.{device_kind_of, end_of, kind_of, answer_with, statement_of};
 ghost use Rattle.usb_statement.specs.declared.keyword.Keyword.{Keyword};
 ghost use Rattle.usb_statement.specs.declared.keyword.Keyword.TheVariants as word;
 
 use crate::items::{are_items_of, read_items};
-use crate::keyword::{BareCall, Keyword, UrbCall};
+use crate::kept_data::{kept, sent};
+use crate::keyword::{BareCall, DeviceBytes, Keyword, UrbCall};
 use crate::options::{UrbOption, read_options};
 use crate::setup_packet::split_setup;
 use crate::urb_name::{UrbName, read_urb_name};
 use std::alloc::Global;
 use usb_machine::EndKind;
-use usb_text::{address, copy, data_bytes, is_name, is_text, next_word, number};
+use usb_text::{address, byte, copy, is_name, is_text, next_word, number};
 use usb_types::{Buf, List, Memory};
-use usb_xfer::Item;
+use usb_xfer::{Item, Kind};
 
 /// What a line says, by itself.
 #[derive(Debug, Drop)]
 pub enum Statement {
     Device {
         name: Buf,
+        kind: Kind,
     },
     Ep {
         address: u8,
         kind: EndKind,
         size: u32,
         interval: u32,
+    },
+    Bytes {
+        which: DeviceBytes,
+        bytes: Buf,
+    },
+    Port {
+        status: u8,
     },
     Answer {
         address: u8,
@@ -55,6 +64,22 @@ pub enum Statement {
     },
 }
 
+fn device_kind(word: &[u8]) -> Option<Kind>
+    ensures { result ≡ device_kind_of word.now }
+{
+    if is_text(word, "raw") {
+        Some(Kind::Raw)
+    } else if is_text(word, "keyboard") {
+        Some(Kind::Keyboard)
+    } else if is_text(word, "acm") {
+        Some(Kind::Acm)
+    } else if is_text(word, "printer") {
+        Some(Kind::Printer)
+    } else {
+        None
+    }
+}
+
 fn device_of(alloc: Global, line: &[u8]) -> Result<Option<Statement>, Memory>
     ensures { IfOk result (λ statement. statement ≡ statement_of word.Device (words line.now)) }
 {
@@ -64,11 +89,15 @@ fn device_of(alloc: Global, line: &[u8]) -> Result<Option<Statement>, Memory>
     let Some((kind, line)) = next_word(line) else {
         return Ok(None);
     };
-    if next_word(line).is_none() && is_name(name) && is_text(kind, "raw") {
-        let name = copy(alloc, name)?;
-        Ok(Some(Statement::Device { name }))
-    } else {
-        Ok(None)
+    if next_word(line).is_some() || !is_name(name) {
+        return Ok(None);
+    }
+    match device_kind(kind) {
+        Some(kind) => {
+            let name = copy(alloc, name)?;
+            Ok(Some(Statement::Device { name, kind }))
+        }
+        None => Ok(None),
     }
 }
 
@@ -201,39 +230,23 @@ fn thread_of(alloc: Global, line: &[u8]) -> Result<Option<Statement>, Memory>
     }
 }
 
-// Adds bytes as far as one byte above a buffer's most.
-#[tactic(auto, using(crate::proofs::Kept::take_onto))]
-fn keep(all: &mut Buf, bytes: &[u8]) -> Result<(), Memory>
-    requires { length all.now ≤ 16385 }
-    ensures { OnOk result (all.new ≡ take 16385 (all.old ++ bytes.now)) }
-{
-    let room = (16385 - all.bytes().len()).min(bytes.len());
-    all.append(&bytes[..room])
-}
-
-// The bytes of the words of data in a line.
-fn kept(alloc: Global, line: &[u8]) -> Result<Option<Buf>, Memory>
-    ensures { IfOk result (λ bytes. bytes ≡ kept_data (words line.now)) }
-{
-    let mut all = Buf::of(Vec::new(alloc));
-    let mut rest = line;
-    while let Some((word, behind)) = next_word(rest) {
-        match data_bytes(alloc, word)? {
-            Some(bytes) => keep(&mut all, bytes.bytes())?,
-            None => return Ok(None),
-        }
-        rest = behind;
-    }
-    Ok(Some(all))
-}
-
-fn sent(alloc: Global, line: &[u8]) -> Result<Option<Option<Buf>>, Memory>
-    ensures { IfOk result (λ sent. sent ≡ sent_of (words line.now)) }
+fn bytes_of(alloc: Global, which: DeviceBytes, line: &[u8]) -> Result<Option<Statement>, Memory>
+    ensures { IfOk result (λ statement. statement ≡ statement_of (word.Bytes which) (words line.now)) }
 {
     if next_word(line).is_none() {
-        return Ok(Some(None));
+        return Ok(None);
     }
-    Ok(kept(alloc, line)?.map(|bytes| Some(bytes)))
+    Ok(kept(alloc, line)?.map(|bytes| Statement::Bytes { which, bytes }))
+}
+
+fn port_of(line: &[u8]) -> Option<Statement>
+    ensures { result ≡ statement_of word.Port (words line.now) }
+{
+    let (status, line) = next_word(line)?;
+    if next_word(line).is_some() {
+        return None;
+    }
+    byte(status).map(|status| Statement::Port { status })
 }
 
 fn submit_of(alloc: Global, line: &[u8]) -> Result<Option<Statement>, Memory>
@@ -284,6 +297,8 @@ pub fn read_statement(
     match keyword {
         Keyword::Device => device_of(alloc, line),
         Keyword::Ep => Ok(ep_of(line)),
+        Keyword::Bytes(which) => bytes_of(alloc, which, line),
+        Keyword::Port => Ok(port_of(line)),
         Keyword::Answer => answer_of(alloc, line),
         Keyword::Urb => urb_of(alloc, line),
         Keyword::Thread => thread_of(alloc, line),

@@ -1,4 +1,4 @@
-//! `usbrun`: reads a scene from standard input, runs it, and prints its report.
+//! `usbrun`: reads a scene from standard input, and prints the report of its run or the list of its devices.
 #![tactic(auto)]
 
 use std::alloc::AllocError;

@@ -1,7 +1,9 @@
 //! Tests of the program and of the crates below it.
 mod bad_scenes;
 mod calling;
+mod class_scenes;
 mod descriptors;
+mod devices;
 mod enumeration;
 mod keyboards;
 mod limits;

@@ -58,9 +58,6 @@ fn devices_come_first(rt: HostRuntime) -> Result<(), Fail> {
         ("device d-e raw", "2: Form"),
         ("device abcdefghijklmnopq raw", "2: Form"),
         ("device d Raw", "2: Form"),
-        ("device d keyboard", "2: Form"),
-        ("device d acm", "2: Form"),
-        ("device d printer", "2: Form"),
         ("device d mouse", "2: Form"),
         ("ep 81 bulk 64 0", "2: Word"),
         ("answer 81 nak", "2: Word"),
@@ -87,7 +84,7 @@ fn devices_come_first(rt: HostRuntime) -> Result<(), Fail> {
         ("setting d 0 0", "2: Word"),
         ("device d raw\ndevice d raw", "3: Twice"),
         ("device d raw # x\n\n\ndevice d raw", "5: Twice"),
-        ("device d raw\ndevice d keyboard", "3: Form"),
+        ("device d raw\ndevice d keyboard", "3: Twice"),
     ];
     check_bad(&rt, "scene 1\n", &rows)
 }

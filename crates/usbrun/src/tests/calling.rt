@@ -66,6 +66,24 @@ pub fn check_reports<R: Abort + AllocGlobal + Threads + Wait + Sync>(
     Ok(())
 }
 
+/// The list of each scene, behind a front, goes on so behind a common beginning.
+pub fn check_lists<R: Abort + AllocGlobal + Threads + Wait + Sync>(
+    rt: &R,
+    front: &str,
+    beginning: &str,
+    rows: &[(&str, &str)],
+) -> Result<(), Fail> {
+    let alloc = rt.alloc();
+    for (lines, report) in rows {
+        let scene = joined(alloc, front, lines, "")?;
+        let wanted = joined(alloc, beginning, report, "")?;
+        let (got, text) = ended(rt, alloc, &["list"], scene, GOOD)?;
+        assert_eq!(rt; got, Status::Done, "{lines}");
+        assert_eq!(rt; text.as_slice(), wanted.as_slice(), "{lines}");
+    }
+    Ok(())
+}
+
 /// The text is no scene: this is told, and nothing is written.
 pub fn check_fault<R: Abort + AllocGlobal + Threads + Wait + Sync>(
     rt: &R,

@@ -118,6 +118,22 @@ fn so_many_items_and_calls_may_stand(rt: HostRuntime) -> Result<(), Fail> {
 }
 
 #[test]
+fn so_many_rejects_may_be_held_on_an_urb_of_a_driver(rt: HostRuntime) -> Result<(), Fail> {
+    let alloc = rt.alloc();
+    let front = "scene 1\ndevice k keyboard\nthread t\n";
+    check_fault(
+        &rt,
+        repeated(alloc, front, "block k.0.in\n", 100, "block k.1.in\nfoo")?,
+        "105: Word",
+    )?;
+    check_fault(
+        &rt,
+        repeated(alloc, front, "block k.0.in\n", 100, "poison k.00.in")?,
+        "104: Limit",
+    )
+}
+
+#[test]
 fn an_input_has_a_limit(rt: HostRuntime) -> Result<(), Fail> {
     let alloc = rt.alloc();
     for (size, wanted) in [(1_048_576, Status::Done), (1_048_577, Status::TooLong)] {

@@ -22,6 +22,14 @@ fn said(alloc: Global, line: &str) -> Result<Option<Statement>, Memory> {
 fn good_lines(rt: HostRuntime) -> Result<(), Fail> {
     let lines = [
         "device d raw",
+        "device d keyboard",
+        "device d acm",
+        "device d printer",
+        "desc -",
+        "desc 12 0a0B fill:3:00",
+        "config fill:16384:ff fill:16384:00",
+        "id - - 4d",
+        "port 1F",
         "ep 0f int 1024 255",
         "ep 81 iso 999999999 0 # too large is another cause",
         "answer 81 p: 2*p:0A0b 4096*nak stall error p:fill:1024:00",
@@ -56,8 +64,17 @@ fn good_lines(rt: HostRuntime) -> Result<(), Fail> {
 #[test]
 fn bad_lines(rt: HostRuntime) -> Result<(), Fail> {
     let lines = [
-        "device d keyboard",
+        "device d disk",
+        "device d",
+        "device d raw raw",
         "device D raw",
+        "desc",
+        "desc 0",
+        "config fill:0:00",
+        "id x",
+        "port",
+        "port 1",
+        "port 18 18",
         "ep 00 bulk 64 0",
         "ep 80 bulk 64 0",
         "ep 81 ctrl 64 0",

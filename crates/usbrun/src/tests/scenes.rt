@@ -1,5 +1,5 @@
 //! Worked scenes with their reports.
-use crate::tests::calling::check_reports;
+use crate::tests::calling::{check_lists, check_reports};
 use std::test::Fail;
 use usb_run::Status;
 
@@ -162,4 +162,66 @@ fn the_gallery_of_transfers(rt: HostRuntime) -> Result<(), Fail> {
         ),
     ];
     check_reports(&rt, "", "", Status::Done, "", &rows)
+}
+
+#[test]
+fn the_gallery_of_devices_of_a_class(rt: HostRuntime) -> Result<(), Fail> {
+    let rows = [
+        (
+            "# A boot keyboard, as a host finds it: its configuration (34 bytes in all), interface 0 of class 03, subclass 01 and\n# protocol 01, the HID descriptor, and the interrupt IN endpoint 81 with packets of 8 bytes.\nscene 1\ndevice kbd keyboard\nconfig 09022200010100A032 090400000103010100 092111010001223F00 0705810308000A\nthread t\nblock kbd.0.in\nunblock kbd.0.in\nkill kbd.0.ctl\nunlink kbd.0.in\nunlink kbd.0.read0\nunlink kbd.1.in\n",
+            "device kbd 1209:0001\ninterface 0 hid 03/01/01 usbkbd\nthread t\n7 block kbd.0.in ok\n8 unblock kbd.0.in ok\n9 kill kbd.0.ctl none\n10 unlink kbd.0.in -EIDRM\n11 unlink kbd.0.read0 -ENODEV\n12 unlink kbd.1.in -ENODEV\ndriver kbd 0 usbkbd\n",
+        ),
+        (
+            "# A serial port of the CDC ACM class. The union descriptor (24, 06) of interface 0 names interface 1 as its data\n# interface; the driver takes both, and has its URBs by the first.\nscene 1\ndevice m acm\nconfig 090243000201008032 090400000102020100 0524001001 0524010001 04240202 0524060001 07058203080010 09040100020A000000 07050102400000 07058102400000\nthread t\nkill m.0.note\nkill m.0.read1\nkill m.1.read1\n",
+            "device m 1209:0001\ninterface 0 comm 02/02/01 cdc_acm\ninterface 1 cdcdata 0A/00/00 cdc_acm\nthread t\n7 kill m.0.note none\n8 kill m.0.read1 none\n9 kill m.1.read1 -ENODEV\ndriver m 0 cdc_acm\n",
+        ),
+        (
+            "# A printer, whose driver asks for its id when it probes. The id begins with its own length, high byte first.\nscene 1\ndevice prn printer\nconfig 09022000010100C000 090400000207010200 07050102400000 07058202400000\nid 00084D46473A413B\nport 18\nthread t\nkill prn.0.write\n",
+            "device prn 1209:0001\ninterface 0 printer 07/01/02 usblp\nthread t\n8 kill prn.0.write none\ndriver prn 0 usblp\n",
+        ),
+        (
+            "# One device with four interfaces: a keyboard, a mouse, which no driver takes, storage, and a printer. Its descriptor gives\n# the vendor 046D and the product C52B. A raw device beside it is not listed.\nscene 1\ndevice box keyboard\ndesc 12010002 00000040 6D042BC5 11120102 0001\nconfig 09025000040100A032 090400000103010100 0705810308000A 090401000103010200 0705820308000A 090402000208065000 07058302400000 07050302400000 090403000107010100 07050402400000\ndevice d raw\nep 81 bulk 64 0\nanswer 81 p:0102\nurb a d 81 len 8\nthread t\nsubmit a\nserve\nkill box.3.write\n",
+            "device box 046D:C52B\ninterface 0 hid 03/01/01 usbkbd\ninterface 1 hid 03/01/02 none\ninterface 2 storage 08/06/50 none\ninterface 3 printer 07/01/01 usblp\nthread t\n12 submit a 0\n14 kill box.3.write none\ngiven\na 0 2 rest 0102\ndriver box 0 usbkbd\ndriver box 3 usblp\n",
+        ),
+        (
+            "# Devices that cannot be enumerated, each with the fault that the host finds first.\nscene 1\ndevice none keyboard          # no configuration: the device stalls\ndevice brief keyboard\ndesc 12010002000000           # seven bytes, of which eight are asked for\ndevice long acm               # its length says 19, and 18 bytes are read\ndesc 130100020000004009120100000100000001\ndevice cut keyboard           # 34 bytes are promised, and 33 come\nconfig 09022200010100A032 090400000103010100 092111010001223F00 070581030800\ndevice stray printer          # an endpoint in front of every interface\nconfig 09021000010100C000 07050102400000\ndevice twice printer          # the same endpoint twice\nconfig 09022000010100C000 090400000207010200 07050102400000 07050102400000\n",
+            "device none fault Status GET_DESCRIPTOR -EPIPE\ndevice brief fault Short 7\ndevice long fault Short 18\ndevice cut fault TotalLength 34 33\ndevice stray fault EndpointWithoutInterface 9\ndevice twice fault TwiceEndpoint 25\n",
+        ),
+        (
+            "# Interfaces that no driver gets: what it needs is missing, its other interface is taken, or the device does not answer\n# the driver's requests.\nscene 1\ndevice a keyboard             # the endpoint is not an interrupt endpoint\nconfig 09021900010100A032 090400000103010100 0705810208000A\ndevice b keyboard             # the first request of the driver is not answered; a stall would be passed over\nconfig 09021900010100A032 090400000103010100 0705810308000A\nanswer 00 error\ndevice c acm                  # two ports with one data interface\nconfig 09024A00030100A032 090400000102020100 0524060001 07058203080010 09040100020A000000 07050102400000 07058102400000 090402000102020100 0524060001 07058303080010\n",
+            "device a 1209:0001\ninterface 0 hid 03/01/01 none\ndevice b 1209:0001\ninterface 0 hid 03/01/01 fail\ndevice c 1209:0001\ninterface 0 comm 02/02/01 cdc_acm\ninterface 1 cdcdata 0A/00/00 cdc_acm\ninterface 2 comm 02/02/01 busy\ndriver c 0 cdc_acm\n",
+        ),
+    ];
+    check_reports(&rt, "", "", Status::Done, "", &rows)
+}
+
+#[test]
+fn the_gallery_of_devices_as_lists(rt: HostRuntime) -> Result<(), Fail> {
+    let rows = [
+        (
+            "# A boot keyboard, as a host finds it: its configuration (34 bytes in all), interface 0 of class 03, subclass 01 and\n# protocol 01, the HID descriptor, and the interrupt IN endpoint 81 with packets of 8 bytes.\nscene 1\ndevice kbd keyboard\nconfig 09022200010100A032 090400000103010100 092111010001223F00 0705810308000A\nthread t\nblock kbd.0.in\nunblock kbd.0.in\nkill kbd.0.ctl\nunlink kbd.0.in\nunlink kbd.0.read0\nunlink kbd.1.in\n",
+            "device kbd 1209:0001\ninterface 0 hid 03/01/01 usbkbd\n",
+        ),
+        (
+            "# A serial port of the CDC ACM class. The union descriptor (24, 06) of interface 0 names interface 1 as its data\n# interface; the driver takes both, and has its URBs by the first.\nscene 1\ndevice m acm\nconfig 090243000201008032 090400000102020100 0524001001 0524010001 04240202 0524060001 07058203080010 09040100020A000000 07050102400000 07058102400000\nthread t\nkill m.0.note\nkill m.0.read1\nkill m.1.read1\n",
+            "device m 1209:0001\ninterface 0 comm 02/02/01 cdc_acm\ninterface 1 cdcdata 0A/00/00 cdc_acm\n",
+        ),
+        (
+            "# A printer, whose driver asks for its id when it probes. The id begins with its own length, high byte first.\nscene 1\ndevice prn printer\nconfig 09022000010100C000 090400000207010200 07050102400000 07058202400000\nid 00084D46473A413B\nport 18\nthread t\nkill prn.0.write\n",
+            "device prn 1209:0001\ninterface 0 printer 07/01/02 usblp\n",
+        ),
+        (
+            "# One device with four interfaces: a keyboard, a mouse, which no driver takes, storage, and a printer. Its descriptor gives\n# the vendor 046D and the product C52B. A raw device beside it is not listed.\nscene 1\ndevice box keyboard\ndesc 12010002 00000040 6D042BC5 11120102 0001\nconfig 09025000040100A032 090400000103010100 0705810308000A 090401000103010200 0705820308000A 090402000208065000 07058302400000 07050302400000 090403000107010100 07050402400000\ndevice d raw\nep 81 bulk 64 0\nanswer 81 p:0102\nurb a d 81 len 8\nthread t\nsubmit a\nserve\nkill box.3.write\n",
+            "device box 046D:C52B\ninterface 0 hid 03/01/01 usbkbd\ninterface 1 hid 03/01/02 none\ninterface 2 storage 08/06/50 none\ninterface 3 printer 07/01/01 usblp\n",
+        ),
+        (
+            "# Devices that cannot be enumerated, each with the fault that the host finds first.\nscene 1\ndevice none keyboard          # no configuration: the device stalls\ndevice brief keyboard\ndesc 12010002000000           # seven bytes, of which eight are asked for\ndevice long acm               # its length says 19, and 18 bytes are read\ndesc 130100020000004009120100000100000001\ndevice cut keyboard           # 34 bytes are promised, and 33 come\nconfig 09022200010100A032 090400000103010100 092111010001223F00 070581030800\ndevice stray printer          # an endpoint in front of every interface\nconfig 09021000010100C000 07050102400000\ndevice twice printer          # the same endpoint twice\nconfig 09022000010100C000 090400000207010200 07050102400000 07050102400000\n",
+            "device none fault Status GET_DESCRIPTOR -EPIPE\ndevice brief fault Short 7\ndevice long fault Short 18\ndevice cut fault TotalLength 34 33\ndevice stray fault EndpointWithoutInterface 9\ndevice twice fault TwiceEndpoint 25\n",
+        ),
+        (
+            "# Interfaces that no driver gets: what it needs is missing, its other interface is taken, or the device does not answer\n# the driver's requests.\nscene 1\ndevice a keyboard             # the endpoint is not an interrupt endpoint\nconfig 09021900010100A032 090400000103010100 0705810208000A\ndevice b keyboard             # the first request of the driver is not answered; a stall would be passed over\nconfig 09021900010100A032 090400000103010100 0705810308000A\nanswer 00 error\ndevice c acm                  # two ports with one data interface\nconfig 09024A00030100A032 090400000102020100 0524060001 07058203080010 09040100020A000000 07050102400000 07058102400000 090402000102020100 0524060001 07058303080010\n",
+            "device a 1209:0001\ninterface 0 hid 03/01/01 none\ndevice b 1209:0001\ninterface 0 hid 03/01/01 fail\ndevice c 1209:0001\ninterface 0 comm 02/02/01 cdc_acm\ninterface 1 cdcdata 0A/00/00 cdc_acm\ninterface 2 comm 02/02/01 busy\n",
+        ),
+    ];
+    check_lists(&rt, "", "", &rows)
 }

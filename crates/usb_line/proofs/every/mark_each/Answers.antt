@@ -8,7 +8,7 @@ use Rattle.usb_machine.specs.History.{state_of}
 use Rattle.usb_machine.specs.Plain.{Stands}
 use Rattle.usb_machine.specs.Calls.{mark_entry}
 use Rattle.usb_line.specs.Prepared.{machine_of}
-use Rattle.usb_line.specs.Run.{below}
+use Rattle.usb_prepare.specs.Below.{below}
 use Rattle.usb_line.proofs.Each.{each_above}
 use Rattle.usb_line.proofs.InTurn.{as_many, each_longer}
 use Rattle.usb_line.proofs.every.mark_each.Goals as goal

@@ -11,7 +11,7 @@ make_calls-requires-clause-underway c = record { far = at_start; in_line = start
 pub returns : goal.returns
 returns c =
     let s = c.args.scene.now in let u = c.in_ok-make_calls.ensures in
-    let called : IsCalled s u.far c.make_calls.new.run = record { good = c.requires; in_line = u.in_line; all = u.all; shows = u.shows } in
+    let called : IsCalled s u.far c.make_calls.new.run = record { good = c.requires.good; in_line = u.in_line; all = u.all; shows = u.shows } in
     let closed = c.in_ok-close.ensures s u.far called c.main_pass_of.ensures in
     record {
       far = closed.far;

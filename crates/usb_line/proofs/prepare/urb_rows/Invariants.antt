@@ -1,5 +1,5 @@
 use Rattle.std.proofs.Common.{◌≡◌, map}
-use Rattle.usb_line.specs.Run.{below}
+use Rattle.usb_prepare.specs.Below.{below}
 use Rattle.usb_line.specs.Opened.{new_urb}
 use Rattle.usb_line.proofs.prepare.urb_rows.Given as goal
 

@@ -35,5 +35,6 @@ returns c =
         ends_so = refl;
         told = c.in_ok-push.ensures.ok ∙ (λ i. run.given ++ record { urb = c.args.urb; status = c.give_back-status.result.0; actual = c.args.t.actual; outcome = c.give_back-status.result.1; bytes = (c.in_ok-bytes.ensures ∙ ap (λ (x : Shape). brought_bytes x c.args.t) shape) i } ∷ []);
         host = refl;
+        same_devices = refl;
       };
     }

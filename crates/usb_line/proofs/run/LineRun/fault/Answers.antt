@@ -3,7 +3,7 @@ use Rattle.std.specs.Prelude.{slice_get}
 use Rattle.std.proofs.lemmas.Option.{slice_get-get_or}
 use Rattle.usb_machine.specs.declared.layout.Shape.{Shape}
 use Rattle.usb_machine.specs.Shapes.{shape_fault}
-use Rattle.usb_line.specs.Prepared.{home}
+use Rattle.usb_prepare.specs.Layout.{home}
 use Rattle.usb_line.proofs.run.LineRun.fault.Goals as goal
 
 pub returns : goal.returns

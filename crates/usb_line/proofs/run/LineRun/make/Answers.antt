@@ -8,18 +8,18 @@ use Rattle.usb_line.proofs.run.LineRun.make.Goals as goal
 
 pub bounds-items-urb : goal.bounds-items-urb
 bounds-items-urb c =
-    let s = c.args.scene.now in let f = c.requires.far in let run = c.args.self.now in let d = deed.Submit c.in-Submit.urb in
-    let may = may_make s f c.args.thread c.args.call.now run c.pass_of_thread-pass.result d c.requires.may c.in-Submit.ensures c.pass_of_thread-pass.ensures in
+    let s = c.args.scene.now in let f = c.requires.can.far in let run = c.args.self.now in let d = deed.Submit c.in-Submit.urb in
+    let may = may_make s f c.args.thread c.args.call.now run c.pass_of_thread-pass.result d c.requires.can.may (c.in-Submit.ensures c.args.scene.now c.requires.bound) c.pass_of_thread-pass.ensures in
     subst (λ l. c.in-Submit.urb < length l) (sym c.items.ensures) (is_there s f c.args.thread c.args.call.now run c.pass_of_thread-pass.result d may)
 
 pub submit-requires : goal.submit-requires
 submit-requires c =
     let s = c.args.scene.now in let u = c.in-Submit.urb in
-    let may = may_make s c.requires.far c.args.thread c.args.call.now c.args.self.now c.pass_of_thread-pass.result (deed.Submit u) c.requires.may c.in-Submit.ensures c.pass_of_thread-pass.ensures in
-    let near : u < length s.urbs = is_there s c.requires.far c.args.thread c.args.call.now c.args.self.now c.pass_of_thread-pass.result (deed.Submit u) may in
+    let may = may_make s c.requires.can.far c.args.thread c.args.call.now c.args.self.now c.pass_of_thread-pass.result (deed.Submit u) c.requires.can.may (c.in-Submit.ensures c.args.scene.now c.requires.bound) c.pass_of_thread-pass.ensures in
+    let near : u < length s.urbs = is_there s c.requires.can.far c.args.thread c.args.call.now c.args.self.now c.pass_of_thread-pass.result (deed.Submit u) may in
     record {
       scene = s;
-      far = c.requires.far;
+      far = c.requires.can.far;
       thread = c.args.thread;
       may = may;
       is = slice_get-get_or s.urbs u c.index-items-urb.result near ∙ ap Some (sym (c.index-items-urb.is ∙ ap (λ l. get_or l u c.index-items-urb.result) c.items.ensures));
@@ -28,42 +28,46 @@ submit-requires c =
 pub take_down-requires : goal.take_down-requires
 take_down-requires c = record {
   scene = c.args.scene.now;
-  far = c.requires.far;
+  far = c.requires.can.far;
   thread = c.args.thread;
   call = c.args.call.now;
-  may = may_hub c.args.scene.now c.requires.far c.args.thread c.args.call.now c.args.self.now deed.Down c.requires.may c.in-Down.ensures refl;
+  may = may_hub c.args.scene.now c.requires.can.far c.args.thread c.args.call.now c.args.self.now deed.Down c.requires.can.may (c.in-Down.ensures c.args.scene.now c.requires.bound) refl;
 }
 
 pub bring_up-requires : goal.bring_up-requires
 bring_up-requires c = record {
   scene = c.args.scene.now;
-  far = c.requires.far;
+  far = c.requires.can.far;
   thread = c.args.thread;
   call = c.args.call.now;
-  may = may_hub c.args.scene.now c.requires.far c.args.thread c.args.call.now c.args.self.now deed.Up c.requires.may c.in-Up.ensures refl;
+  may = may_hub c.args.scene.now c.requires.can.far c.args.thread c.args.call.now c.args.self.now deed.Up c.requires.can.may (c.in-Up.ensures c.args.scene.now c.requires.bound) refl;
 }
 
 pub returns-in-Submit : goal.returns-in-Submit
 returns-in-Submit c =
     let s = c.args.scene.now in let u = c.in-Submit.urb in
-    let may = may_make s c.requires.far c.args.thread c.args.call.now c.args.self.now c.pass_of_thread-pass.result (deed.Submit u) c.requires.may c.in-Submit.ensures c.pass_of_thread-pass.ensures in
-    let near : u < length s.urbs = is_there s c.requires.far c.args.thread c.args.call.now c.args.self.now c.pass_of_thread-pass.result (deed.Submit u) may in
+    let may = may_make s c.requires.can.far c.args.thread c.args.call.now c.args.self.now c.pass_of_thread-pass.result (deed.Submit u) c.requires.can.may (c.in-Submit.ensures c.args.scene.now c.requires.bound) c.pass_of_thread-pass.ensures in
+    let near : u < length s.urbs = is_there s c.requires.can.far c.args.thread c.args.call.now c.args.self.now c.pass_of_thread-pass.result (deed.Submit u) may in
     let at : slice_get s.urbs u ≡ Some c.index-items-urb.result
     = slice_get-get_or s.urbs u c.index-items-urb.result near ∙ ap Some (sym (c.index-items-urb.is ∙ ap (λ l. get_or l u c.index-items-urb.result) c.items.ensures)) in
     IfOk-weaker c.submit.result _ _ (λ told is f may. is s f c.args.thread
-    (may_make s f c.args.thread c.args.call.now c.args.self.now c.pass_of_thread-pass.result (deed.Submit u) may c.in-Submit.ensures c.pass_of_thread-pass.ensures) at) c.submit.ensures
+    (may_make s f c.args.thread c.args.call.now c.args.self.now c.pass_of_thread-pass.result (deed.Submit u) may (c.in-Submit.ensures c.args.scene.now c.requires.bound) c.pass_of_thread-pass.ensures) at) c.submit.ensures
 
 pub returns-in-Serve : goal.returns-in-Serve
 returns-in-Serve c = IfOk-weaker c.serve_all.result _ _ (λ told is f may. is c.args.scene.now f c.args.thread c.args.call.now c.pass_of_thread-pass.result
-    (may_make c.args.scene.now f c.args.thread c.args.call.now c.args.self.now c.pass_of_thread-pass.result deed.Serve may c.in-Serve.ensures c.pass_of_thread-pass.ensures)) c.serve_all.ensures
+    (may_make c.args.scene.now f c.args.thread c.args.call.now c.args.self.now c.pass_of_thread-pass.result deed.Serve may (c.in-Serve.ensures c.args.scene.now c.requires.bound) c.pass_of_thread-pass.ensures)) c.serve_all.ensures
 
 pub returns-in-Down : goal.returns-in-Down
 returns-in-Down c = IfOk-weaker c.take_down.result _ _ (λ told is f may. is c.args.scene.now f c.args.thread c.args.call.now
-    (may_hub c.args.scene.now f c.args.thread c.args.call.now c.args.self.now deed.Down may c.in-Down.ensures refl)) c.take_down.ensures
+    (may_hub c.args.scene.now f c.args.thread c.args.call.now c.args.self.now deed.Down may (c.in-Down.ensures c.args.scene.now c.requires.bound) refl)) c.take_down.ensures
 
 pub returns-in-Up : goal.returns-in-Up
-returns-in-Up c f may = c.bring_up.ensures c.args.scene.now f c.args.thread c.args.call.now (may_hub c.args.scene.now f c.args.thread c.args.call.now c.args.self.now deed.Up may c.in-Up.ensures refl)
+returns-in-Up c f may = c.bring_up.ensures c.args.scene.now f c.args.thread c.args.call.now (may_hub c.args.scene.now f c.args.thread c.args.call.now c.args.self.now deed.Up may (c.in-Up.ensures c.args.scene.now c.requires.bound) refl)
+
+pub returns-in-Absent : goal.returns-in-Absent
+returns-in-Absent c f may = c.refuse.ensures c.args.scene.now f c.args.thread c.args.call.now c.pass_of_thread-pass.result
+    (may_make c.args.scene.now f c.args.thread c.args.call.now c.args.self.now c.pass_of_thread-pass.result deed.Absent may (c.in-Absent.ensures c.args.scene.now c.requires.bound) c.pass_of_thread-pass.ensures)
 
 pub returns-in-Other : goal.returns-in-Other
 returns-in-Other c f may = absurd (is_there c.args.scene.now f c.args.thread c.args.call.now c.args.self.now c.pass_of_thread-pass.result deed.Other
-    (may_make c.args.scene.now f c.args.thread c.args.call.now c.args.self.now c.pass_of_thread-pass.result deed.Other may c.in-Other.ensures c.pass_of_thread-pass.ensures))
+    (may_make c.args.scene.now f c.args.thread c.args.call.now c.args.self.now c.pass_of_thread-pass.result deed.Other may (c.in-Other.ensures c.args.scene.now c.requires.bound) c.pass_of_thread-pass.ensures))

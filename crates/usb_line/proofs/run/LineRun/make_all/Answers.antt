@@ -1,7 +1,7 @@
 use Rattle.std.proofs.Common.{◌≡◌, ◌++◌, [], ◌∷◌, map, take, get_or, sym, ap, ◌∙◌, subst, arith, append-nil}
 use Rattle.std.proofs.lemmas.Grind.{common_steps}
 use Rattle.usb_scene.specs.declared.scene.Call.{Call}
-use Rattle.usb_line.specs.Prepared.{calls_from, deed_of}
+use Rattle.usb_line.specs.Prepared.{calls_from}
 use Rattle.usb_line.specs.Calls.{Made, MayBeMade, IsUnderway}
 use Rattle.usb_line.proofs.Threads.{next_here, made_row, one_made}
 use Rattle.usb_line.proofs.run.LineRun.make_all.Goals as goal
@@ -9,8 +9,8 @@ use Rattle.usb_line.proofs.run.LineRun.make_all.Goals as goal
 pub loop-call-init : goal.loop-call-init
 loop-call-init c = subst (λ l. IsUnderway c.args.scene.now l c.args.self.now c.args.made.now) (sym (append-nil (calls_from 0 (take c.args.thread c.args.scene.now.threads)))) c.requires.underway
 
-pub make-requires : goal.make-requires
-make-requires c = record {
+pub make-requires-clause-can : goal.make-requires-clause-can
+make-requires-clause-can c = record {
   far = c.loop-call.invariant.far;
   may = subst (λ k. MayBeMade c.args.scene.now c.loop-call.invariant.far c.args.thread k c.loop-call.self) (sym c.call-item.is)
       (next_here c.args.scene.now c.requires.good c.args.thread c.requires.there c.args.calls.now c.requires.script c.loop-call.self c.loop-call.made c.loop-call.call-index c.call-item.result
@@ -23,8 +23,8 @@ loop-call-preserved c =
     let may = next_here s c.requires.good i c.requires.there calls c.requires.script c.loop-call.self c.loop-call.made k d c.loop-call-test.true at in
     let done : Made s at.far i (get_or calls k d) c.in_ok-answer.answer c.make.new.self
     = subst (λ x. Made s at.far i x c.in_ok-answer.answer c.make.new.self) c.call-item.is (c.in_ok-answer.ensures at.far (subst (λ x. MayBeMade s at.far i x c.loop-call.self) (sym c.call-item.is) may)) in
-    let row : record { thread = i; line = d.line; deed = c.deed_in.result; answer = c.in_ok-answer.answer } ≡ made_row i (get_or calls k d) c.in_ok-answer.answer
-    = (λ j. record { thread = i; line = (c.call-item.is j).line; deed = (c.deed_in.ensures ∙ ap deed_of c.call-item.is) j; answer = c.in_ok-answer.answer }) in
+    let row : record { thread = i; line = d.line; code = d.code; target = d.target; answer = c.in_ok-answer.answer } ≡ made_row i (get_or calls k d) c.in_ok-answer.answer
+    = (λ j. record { thread = i; line = (c.call-item.is j).line; code = (c.call-item.is j).code; target = (c.call-item.is j).target; answer = c.in_ok-answer.answer }) in
     one_made s c.requires.good i c.requires.there calls c.requires.script c.loop-call.self c.loop-call.made k d c.loop-call-test.true at c.in_ok-answer.answer c.make.new.self c.push.new.self done
     (c.in_ok-push.ensures.ok ∙ ap (λ x. c.loop-call.made ++ x ∷ []) row)
 

@@ -4,7 +4,7 @@ use Rattle.usb_line.specs.Turned.{TakesOut, FirstAwake}
 use Rattle.usb_line.proofs.Lookups.{none_of}
 use Rattle.usb_line.proofs.Pendings.{pending_near}
 use Rattle.usb_line.proofs.Moving.{passes_over}
-use Rattle.usb_line.proofs.Turning.{not_missing, has_window, has_size, moved_can_bring, by_waiting, steady_waiting, by_ending, falls_ending}
+use Rattle.usb_line.proofs.Turning.{not_missing, has_window, has_size, has_device, moved_can_bring, by_waiting, steady_waiting, by_ending, falls_ending}
 use Rattle.usb_line.proofs.run.LineRun.serve_end.Goals as goal
 
 pub returns-in_default-clause-served : goal.returns-in_default-clause-served
@@ -33,6 +33,11 @@ move_on-requires-clause-window c = let q = c.requires.unmarked in let run = c.ar
 pub move_on-requires-clause-size : goal.move_on-requires-clause-size
 move_on-requires-clause-size c = let q = c.requires.unmarked in let run = c.args.self.now in
     has_size q.scene q.good q.far run c.take_out.new.self q.shows c.args.ep c.in-Some.urb (subst (FirstAwake q.scene q.far c.args.ep) c.in-Some.is (c.first_awake.ensures q.scene q.far q.shows))
+    c.in-Some-take_out.t (subst (λ (o : Option Transfer). TakesOut run c.take_out.new.self c.in-Some.urb o) c.in-Some-take_out.is c.take_out.ensures)
+
+pub move_on-requires-clause-device : goal.move_on-requires-clause-device
+move_on-requires-clause-device c = let q = c.requires.unmarked in let run = c.args.self.now in
+    has_device q.scene q.good q.far run c.take_out.new.self q.shows c.args.ep c.in-Some.urb (subst (FirstAwake q.scene q.far c.args.ep) c.in-Some.is (c.first_awake.ensures q.scene q.far q.shows))
     c.in-Some-take_out.t (subst (λ (o : Option Transfer). TakesOut run c.take_out.new.self c.in-Some.urb o) c.in-Some-take_out.is c.take_out.ensures)
 
 pub fall_asleep-requires-clause-known : goal.fall_asleep-requires-clause-known

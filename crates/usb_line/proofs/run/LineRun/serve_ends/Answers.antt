@@ -1,5 +1,5 @@
 use Rattle.std.proofs.Common.{◌<◌, Bool, refl, sym, ap, ◌∙◌, subst, arith, add-one}
-use Rattle.usb_line.specs.Prepared.{ends_of}
+use Rattle.usb_prepare.specs.Ends.{ends_of}
 use Rattle.usb_line.specs.Line.{marked_of, Passes, none}
 use Rattle.usb_line.specs.Turned.{EndServed, TurnsFall}
 use Rattle.usb_line.proofs.Turns.{passed}

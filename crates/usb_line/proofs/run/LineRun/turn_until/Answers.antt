@@ -1,4 +1,5 @@
-use Rattle.std.proofs.Common.{◌<◌, Bool, length, refl, sym, ◌∙◌, subst}
+use Rattle.std.proofs.Common.{◌<◌, Bool, refl, sym, ◌∙◌, subst}
+use Rattle.usb_prepare.specs.Layout.{urb_count}
 use Rattle.usb_line.specs.Line.{begins, goes_on}
 use Rattle.usb_line.specs.Shows.{Turned}
 use Rattle.usb_line.proofs.Stopping.{stop_gives}
@@ -10,7 +11,7 @@ loop-self-init c = record { shown = c.requires.shown; urbs = refl; so_far = λ s
 
 pub returns-then-not-branch-clause-waited : goal.returns-then-not-branch-clause-waited
 returns-then-not-branch-clause-waited c s f good shows loud stops =
-    let near : c.args.urb < length s.urbs = subst (λ n. c.args.urb < n) shows.all_urbs c.requires.urb in
+    let near : c.args.urb < urb_count s = subst (λ n. c.args.urb < n) shows.all_urbs c.requires.urb in
     let m = c.loop-self.invariant.so_far s f good shows loud stops in
     let idle = subst (λ (b : Bool). Turned s m.0 b c.turn.new.self) c.if-not-branch.true (c.in_ok-turn.ensures.turned s m.0 good m.2) in
     absurd (never_idle s good f m.0 c.args.urb c.loop-self.self near m.1 m.2 m.3 idle.0 idle.1)

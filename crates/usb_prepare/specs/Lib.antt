@@ -1,0 +1,9 @@
+pub mod Below
+pub mod Enumerated
+pub mod Probing
+pub mod Ends
+pub mod Prepared
+pub mod Asking
+pub mod Layout
+pub mod Bindings
+pub mod Ready

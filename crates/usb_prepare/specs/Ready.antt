@@ -1,0 +1,30 @@
+-- What the run of a scene begins with.
+use Rattle.std.specs.Prelude.{ℕ, ◌≡◌, true, List, [], length, slice_get, Some}
+use Rattle.usb_device.specs.declared.scripted.Scripted.{Scripted}
+use Rattle.usb_device.specs.Device.{Call, Stands}
+use Rattle.usb_scene.specs.declared.scene.Scene.{Scene}
+use Rattle.usb_scene.specs.declared.scene.SceneDevice.{SceneDevice}
+use Rattle.usb_scene.specs.WellFormed.{is_raw}
+use Rattle.usb_prepare.specs.declared.prepared.Prepared.{Prepared}
+use Rattle.usb_prepare.specs.Layout.{layout_of}
+use Rattle.usb_prepare.specs.Bindings.{HaveHeard}
+use Rattle.usb_prepare.specs.Prepared.{bindings_of, probes_of, found_of}
+
+-- a device before the run: a raw one heard no call
+pub record IsReady (device : SceneDevice) (scripted : Scripted) : Type 0 where
+  pub calls : List Call
+  pub stands : Stands scripted device.script calls
+  pub unasked : is_raw device.script.kind ≡ true → calls ≡ []
+
+-- each of these devices is there
+pub record AreReady (devices : List SceneDevice) (all : List Scripted) : Type 0 where
+  pub count : length all ≡ length devices
+  pub each : (d : ℕ) (device : SceneDevice) (scripted : Scripted) → slice_get devices d ≡ Some device → slice_get all d ≡ Some scripted → IsReady device scripted
+
+-- the scene is prepared: each device heard its enumeration and its probes
+pub record IsPrepared (s : Scene) (p : Prepared) : Type 0 where
+  pub devices : AreReady s.devices p.devices.items
+  pub heard : HaveHeard s.devices (probes_of s).heard p.devices.items
+  pub found : p.found ≡ found_of s
+  pub bound : p.board.bindings ≡ bindings_of s
+  pub layout : p.layout ≡ layout_of s

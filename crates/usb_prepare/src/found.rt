@@ -1,0 +1,53 @@
+//! What a scene's devices are found to be.
+
+use usb_bind::{Driver, ProbeFault};
+use usb_ctrl::EnumFault;
+use usb_types::List;
+
+/// How the probe of an interface went.
+#[derive(Clone, Copy, Debug, PartialEq, Eq)]
+pub enum Probe {
+    Bound,
+    Refused(ProbeFault),
+    /// A request of the driver was not answered, and what was bound was undone.
+    Cancelled,
+}
+
+/// Who has an interface, or why nobody has.
+#[derive(Clone, Copy, Debug, PartialEq, Eq)]
+pub enum Taken {
+    By(Driver),
+    /// Too few URBs were spare.
+    Full,
+    /// The other interface that the driver needs was bound.
+    Busy,
+    /// A request of the driver was not answered.
+    Failed,
+    /// No driver matches, or what it needs is not there.
+    Nobody,
+}
+
+/// An interface, as its setting 0 tells it (USB 2.0 §9.6.5).
+#[derive(Clone, Copy, Debug, PartialEq, Eq)]
+pub struct Face {
+    pub number: u8,
+    pub class: u8,
+    pub subclass: u8,
+    pub protocol: u8,
+    pub taken: Taken,
+}
+
+/// What a device of the scene is found to be.
+#[derive(Debug, Drop)]
+pub enum Found {
+    /// A raw device, which is not enumerated.
+    Raw,
+    Attached {
+        vendor: u16,
+        product: u16,
+        /// Its interfaces, in the order in which they stand.
+        faces: List<Face>,
+    },
+    /// Why its enumeration ended.
+    Fault(EnumFault),
+}

@@ -1,0 +1,17 @@
+//! What a scene prepares before its run: its devices are enumerated, their interfaces are probed, and each URB gets its
+//! home.
+#![tactic(auto)]
+
+mod beginning;
+mod ends;
+mod enumeration;
+mod faces;
+mod found;
+mod homes;
+mod prepared;
+mod preparing;
+mod probing;
+
+pub use found::{Face, Found, Probe, Taken};
+pub use prepared::Prepared;
+pub use preparing::prepare;

@@ -1,0 +1,4 @@
+pub mod BoundNames
+mod Examples
+pub mod NumberedTexts
+pub mod UrbNames

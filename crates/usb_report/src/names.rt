@@ -1,0 +1,120 @@
+//! The names of devices and URBs in a report.
+ghost use Rattle.std.specs.Prelude.{◌≡◌, ◌++◌, [], OnOk};
+ghost use Rattle.usb_statement.specs.Printed.{role_text};
+ghost use Rattle.usb_report.specs.Names.{device_name, role_name, has_for, role_in, bound_name, own_name_or, urb_name};
+
+use usb_bind::Bound;
+use usb_scene::Scene;
+use usb_text::push_number;
+use usb_types::{Buf, Memory, Role, UrbId};
+
+const ROLES: [Role; 6] = [
+    Role::In,
+    Role::Note,
+    Role::Read0,
+    Role::Read1,
+    Role::Write,
+    Role::Ctl,
+];
+
+/// Adds the name of a device of the scene.
+pub(crate) fn push_device(report: &mut Buf, scene: &Scene, device: u32) -> Result<(), Memory>
+    ensures { OnOk result (report.new ≡ report.old ++ device_name scene.now device) }
+{
+    match scene.devices.items().get(device as usize) {
+        Some(device) => report.append(device.name.bytes()),
+        None => Ok(()),
+    }
+}
+
+/// Adds the name of one of the scene's own URBs.
+pub(crate) fn push_own_urb(report: &mut Buf, scene: &Scene, urb: u32) -> Result<(), Memory>
+    ensures { OnOk result (report.new ≡ report.old ++ own_name_or [] scene.now urb) }
+{
+    match scene.urbs.items().get(urb as usize) {
+        Some(urb) => report.append(urb.name.bytes()),
+        None => Ok(()),
+    }
+}
+
+fn role_text(role: Role) -> &'static str
+    ensures { result.now ≡ role_text role }
+{
+    match role {
+        Role::In => "in",
+        Role::Note => "note",
+        Role::Read0 => "read0",
+        Role::Read1 => "read1",
+        Role::Write => "write",
+        Role::Ctl => "ctl",
+    }
+}
+
+/// Adds the name of a driver's URB, as a line of a scene says it.
+pub(crate) fn push_role(
+    report: &mut Buf,
+    scene: &Scene,
+    device: u32,
+    interface: u8,
+    role: Role,
+) -> Result<(), Memory>
+    ensures { OnOk result (report.new ≡ report.old ++ role_name scene.now device interface role) }
+{
+    push_device(report, scene, device)?;
+    report.append(b".")?;
+    push_number(report, interface as u64)?;
+    report.append(b".")?;
+    report.append(role_text(role).as_bytes())
+}
+
+fn has_for(urb: u32, bound: &Bound, role: Role) -> bool
+    ensures { result ≡ has_for urb bound.now role }
+{
+    match bound.urb(role) {
+        Some(UrbId(number)) => number == urb,
+        None => false,
+    }
+}
+
+// The purpose that a binding has an URB for.
+fn role_in(urb: u32, bound: &Bound) -> Option<Role>
+    ensures { result ≡ role_in urb bound.now }
+{
+    ROLES
+        .iter()
+        .copied()
+        .find(|role| has_for(urb, bound, *role))
+}
+
+// The name of a driver's URB, after the first binding that has it.
+fn push_bound_urb(
+    report: &mut Buf,
+    scene: &Scene,
+    bindings: &[Bound],
+    urb: u32,
+) -> Result<(), Memory>
+    ensures { OnOk result (report.new ≡ report.old ++ bound_name scene.now urb bindings.now) }
+{
+    for bound in bindings {
+        if let Some(role) = role_in(urb, bound) {
+            return push_role(report, scene, bound.device, bound.interface, role);
+        }
+    }
+    Ok(())
+}
+
+/// Adds the name of an URB. The scene's own URBs have the first numbers, and drivers have the others.
+#[tactic(auto, unfolding(crate::specs::Names::urb_name))]
+pub(crate) fn push_urb(
+    report: &mut Buf,
+    scene: &Scene,
+    bindings: &[Bound],
+    urb: u32,
+) -> Result<(), Memory>
+    ensures { OnOk result (report.new ≡ report.old ++ urb_name scene.now bindings.now urb) }
+{
+    match scene.urbs.items().get(urb as usize) {
+        Some(urb) => report.append(urb.name.bytes()),
+        None => push_bound_urb(report, scene, bindings, urb),
+    }
+}

@@ -1,0 +1,54 @@
+-- Examples that the checker computes: small texts and lines, each with what is told of it.
+use Rattle.std.proofs.Common.{◌≡◌, [], ◌∷◌, Some, None, Err, refl}
+use Rattle.std.specs.Prelude.{codes}
+use Rattle.usb_text.specs.Lines.{is_plain}
+use Rattle.usb_text.specs.Words.{is_blank}
+use Rattle.usb_xfer.specs.declared.script.Kind.TheVariants.{Keyboard, Printer}
+use Rattle.usb_xfer.specs.declared.script.What.TheVariants.{Ack, Packet}
+use Rattle.usb_statement.specs.declared.statement.Statement.TheVariants as say
+use Rattle.usb_scene.specs.declared.cause.Cause.TheVariants as cause
+use Rattle.usb_scene.specs.Rules.{SoFar, statement_cause}
+use Rattle.usb_scene.specs.Growth.{nothing_said, grown_by}
+use Rattle.usb_scene.specs.Read.{scene_of}
+
+no_endpoint : scene_of (codes "scene 1\ndevice k keyboard\nep 81 bulk 8 0") ≡ Err (3, cause.Word)
+unfolding is_plain is_blank
+no_endpoint = refl
+
+two_descriptors : scene_of (codes "scene 1\ndevice k keyboard\ndesc -\nconfig -\ndesc -") ≡ Err (5, cause.Twice)
+unfolding is_plain is_blank
+two_descriptors = refl
+
+one_urb : scene_of (codes "scene 1\ndevice k keyboard\nthread t\nblock k.0.in\nunblock k.00.in\nunblock k.0.in") ≡ Err (6, cause.Held)
+unfolding is_plain is_blank
+one_urb = refl
+
+no_such_urb : scene_of (codes "scene 1\ndevice d raw\nthread t\nkill d.0.in") ≡ Err (4, cause.Name)
+unfolding is_plain is_blank
+no_such_urb = refl
+
+no_such_interface : scene_of (codes "scene 1\ndevice k keyboard\nthread t\nkill k.256.in") ≡ Err (4, cause.Limit)
+unfolding is_plain is_blank
+no_such_interface = refl
+
+-- behind the line of a keyboard, and that of a printer
+abbrev keyboard : SoFar
+keyboard = grown_by nothing_said 2 (say.Device (codes "k") Keyboard)
+
+abbrev printer : SoFar
+printer = grown_by keyboard 3 (say.Device (codes "p") Printer)
+
+no_packet_at_zero : statement_cause keyboard (say.Answer 0 (record { times = 1; what = Packet [] } ∷ [])) ≡ Some cause.Form
+no_packet_at_zero = refl
+
+a_handshake_at_zero : statement_cause keyboard (say.Answer 0 (record { times = 1; what = Ack } ∷ [])) ≡ None
+a_handshake_at_zero = refl
+
+a_packet_elsewhere : statement_cause keyboard (say.Answer 129 (record { times = 1; what = Packet [] } ∷ [])) ≡ None
+a_packet_elsewhere = refl
+
+two_ports : statement_cause (grown_by printer 4 (say.Port 16)) (say.Port 24) ≡ Some cause.Twice
+two_ports = refl
+
+a_port_each : statement_cause (grown_by (grown_by printer 4 (say.Port 16)) 5 (say.Device (codes "q") Printer)) (say.Port 24) ≡ None
+a_port_each = refl

@@ -1,0 +1,187 @@
+-- A call without a cause against it leaves the scene well formed.
+use Rattle.std.proofs.Common.{◌≡◌, ℕ, ◌<◌, ◌≤◌, ◌^◌, inl, inr, true, false, cond, List, [], ◌∷◌, ◌++◌, length, zero, suc, Option, Some, None, refl, sym, ap, ◌∙◌, arith, subst, lit≤}
+use Rattle.std.specs.Prelude.{nat_lt, slice_get, codes}
+use Rattle.std.specs.List.{All}
+use Rattle.std.specs.Option.{option_map}
+use Rattle.std.specs.Str.{bytes_eq}
+use Rattle.std.proofs.lemmas.Bool.{true≢false}
+use Rattle.std.proofs.lemmas.List.Elements.{All-nil, All-push, All-weaker}
+use Rattle.usb_scene.specs.declared.scene.Scene.{Scene}
+use Rattle.usb_scene.specs.declared.scene.SceneDevice.{SceneDevice}
+use Rattle.usb_scene.specs.declared.scene.SceneThread.{SceneThread}
+use Rattle.usb_scene.specs.declared.scene.SceneUrb.{SceneUrb}
+use Rattle.usb_scene.specs.declared.scene.Call.{Call}
+use Rattle.usb_scene.specs.declared.scene.Target.{Target}
+use Rattle.usb_scene.specs.declared.scene.Target.TheVariants as target
+use Rattle.usb_statement.specs.declared.keyword.UrbCall.{UrbCall}
+use Rattle.usb_statement.specs.declared.keyword.UrbCall.TheVariants as on
+use Rattle.usb_statement.specs.declared.keyword.BareCall.{BareCall}
+use Rattle.usb_statement.specs.declared.keyword.BareCall.TheVariants as bare
+use Rattle.usb_statement.specs.declared.statement.Statement.TheVariants as say
+use Rattle.usb_statement.specs.Statements.{is_empty}
+use Rattle.usb_scene.specs.WellFormed.{HasEnd, HasDrivers, IsUrb, IsBuilt, IsBuffer, IsCall, AreHeld, held_on, is_hub_call, IsThread, IsWellFormed}
+use Rattle.usb_scene.specs.Rules.{given_len, raises, withdraws, calls_of, last_thread, is_hub, may_call}
+use Rattle.usb_scene.specs.Growth.{on_last, plain_call, urb_call_code, bare_call_code, with_call, scene_calls}
+use Rattle.usb_scene.specs.Counts.{AreFair}
+use Rattle.usb_scene.proofs.HeldCounts.{urb_call, quiet_submit, quiet_alone, fair_quiet, fair_said}
+use Rattle.usb_scene.proofs.Scripts.{held_calmly, held_said, held_none}
+use Rattle.usb_scene.proofs.Scenes.{length-on_last}
+use Rattle.usb_statement.proofs.SaidWords.{option_map_some}
+use Rattle.usb_scene.proofs.Pushed.{all_last, Once}
+
+-- a scene that is well formed and whose scripts withdraw no more than they raise
+pub record IsSound (s : Scene) : Type 0 where
+  pub formed : IsWellFormed s
+  pub fair : All (λ (t : SceneThread). AreFair t.calls) s.threads
+
+pub urb_kept : (s t : Scene) → s.devices ≡ t.devices → (u : SceneUrb) → IsUrb s u → IsUrb t u
+urb_kept s t same u h = record {
+  home = subst (λ (ds : List SceneDevice). HasEnd u.address (slice_get ds u.device)) same h.home;
+  len = h.len;
+  again = h.again;
+}
+
+-- a scene with the same devices, and no fewer URBs
+pub record Keeps (s t : Scene) : Type 0 where
+  pub devices : s.devices ≡ t.devices
+  pub urbs : length s.urbs ≤ length t.urbs
+
+-- threads
+built_kept : (s t : Scene) → Keeps s t → (code : ℕ) (at : Target) → IsBuilt s code at → IsBuilt t code at
+built_kept s t more code (target.Urb u) h = (h.0, h.1, omega (arith, h.2, more.urbs))
+built_kept s t more code target.Nothing h = h
+built_kept s t more code (target.Role d interface role) h = (h.0, h.1, h.2, subst (λ (ds : List SceneDevice). HasDrivers (slice_get ds d)) more.devices h.3)
+built_kept s t more code (target.Anchor n) h = h
+built_kept s t more code (target.Device n) h = h
+
+call_kept : (s t : Scene) → Keeps s t → (c : Call) → IsCall s c → IsCall t c
+call_kept s t more c h = record { line = h.line; built = built_kept s t more c.code c.target h.built; setup = h.setup; bytes = h.bytes }
+
+thread_kept : (s t : Scene) → Keeps s t → (thread : SceneThread) → IsThread s thread → IsThread t thread
+thread_kept s t more thread h = record { calls = All-weaker (IsCall s) (IsCall t) (call_kept s t more) thread.calls h.calls; held = h.held; hub = h.hub }
+
+pub threads_kept : (s t : Scene) → Keeps s t → All (IsThread s) s.threads → All (IsThread t) s.threads
+threads_kept s t more h = All-weaker (IsThread s) (IsThread t) (thread_kept s t more) s.threads h
+
+thread_with : (s t : Scene) (c : Call) (thread : SceneThread) → Keeps s t → IsCall t c → AreHeld (thread.calls ++ c ∷ [])
+    → (bytes_eq thread.name (codes "hub") ≡ false → is_hub_call c.code ≡ false) → IsThread s thread → IsThread t (with_call c thread)
+thread_with s t c thread more new held hub h = record {
+  calls = All-push (IsCall t) thread.calls c (thread_kept s t more thread h).calls new;
+  held = held;
+  hub = λ e. All-push (λ (c : Call). is_hub_call c.code ≡ false) thread.calls c (h.hub e) (hub e);
+}
+
+pub new_thread : (s : Scene) (name : List ℕ) → IsThread s (record { name = name; calls = [] })
+new_thread s name = record { calls = All-nil (IsCall s); held = held_none; hub = λ e. All-nil (λ (c : Call). is_hub_call c.code ≡ false) }
+
+-- names of threads do not change
+names_same : (c : Call) (threads : List SceneThread) (i : ℕ)
+    → option_map (λ (t : SceneThread). t.name) (slice_get (on_last (with_call c) threads) i) ≡ option_map (λ (t : SceneThread). t.name) (slice_get threads i)
+names_same c [] i = refl
+names_same c (t ∷ []) zero = refl
+names_same c (t ∷ []) (suc i) = refl
+names_same c (t ∷ next ∷ threads) zero = refl
+names_same c (t ∷ next ∷ threads) (suc i) = names_same c (next ∷ threads) i
+
+name_at : (c : Call) (threads : List SceneThread) (i : ℕ) (a : SceneThread) → slice_get (on_last (with_call c) threads) i ≡ Some a
+    → (b : SceneThread) × (slice_get threads i ≡ Some b) × (b.name ≡ a.name)
+name_at c threads i a e =
+    option_map_some (λ (t : SceneThread). t.name) (slice_get threads i) a.name (sym (names_same c threads i) ∙ ap (option_map (λ (t : SceneThread). t.name)) e)
+    (λ b g same. (b, g, same))
+
+once_called : (c : Call) (threads : List SceneThread) → Once (λ (t : SceneThread). t.name) threads → Once (λ (t : SceneThread). t.name) (on_last (with_call c) threads)
+once_called c threads h i j a b e g same =
+    let p = name_at c threads i a e in
+    let q = name_at c threads j b g in
+    h i j p.0 q.0 p.1 q.1 (p.2 ∙ same ∙ sym q.2)
+
+-- what holds of the last script with one call more
+record IsGrown (c : Call) (thread : SceneThread) : Type 0 where
+  held : AreHeld (thread.calls ++ c ∷ [])
+  fair : AreFair (thread.calls ++ c ∷ [])
+  hub : bytes_eq thread.name (codes "hub") ≡ false → is_hub_call c.code ≡ false
+
+abbrev BothOf : Scene → SceneThread → Type 0
+BothOf s thread = IsThread s thread × AreFair thread.calls
+
+call_sound : (s : Scene) (c : Call) → is_empty s.threads ≡ false → IsCall s c
+    → ((thread : SceneThread) → last_thread s ≡ Some thread → BothOf s thread → IsGrown c thread) → IsSound s → IsSound (scene_calls s c)
+call_sound s c some new grown h =
+    let t = scene_calls s c in
+    let both : All (BothOf s) s.threads = λ k d l. (h.formed.threads k d l, h.fair k d l) in
+    let more : Keeps s t = record { devices = refl; urbs = omega arith } in
+    let placed : IsCall t c = call_kept s t more c new in
+    record {
+      formed = record {
+        few_devices = h.formed.few_devices;
+        few_urbs = h.formed.few_urbs;
+        few_threads = omega (arith, h.formed.few_threads, length-on_last (with_call c) s.threads);
+        devices = h.formed.devices;
+        urbs = All-weaker (IsUrb s) (IsUrb t) (urb_kept s t refl) s.urbs h.formed.urbs;
+        threads = all_last (BothOf s) (IsThread t) (with_call c) s.threads some both (λ x p. thread_kept s t more x p.0)
+            (λ x e p. let g = grown x e p in thread_with s t c x more placed g.held g.hub p.0);
+        names = once_called c s.threads h.formed.names;
+      };
+      fair = all_last (BothOf s) (λ (x : SceneThread). AreFair x.calls) (with_call c) s.threads some both (λ x p. p.1) (λ x e p. (grown x e p).fair);
+    }
+
+pub urb_codes : (call : UrbCall) → (2 ≤ urb_call_code call) × (urb_call_code call ≤ 7)
+urb_codes on.Unlink = (lit≤ tt, lit≤ tt)
+urb_codes on.Kill = (lit≤ tt, lit≤ tt)
+urb_codes on.Poison = (lit≤ tt, lit≤ tt)
+urb_codes on.Unpoison = (lit≤ tt, lit≤ tt)
+urb_codes on.Block = (lit≤ tt, lit≤ tt)
+urb_codes on.Unblock = (lit≤ tt, lit≤ tt)
+
+not_of_hub : (call : UrbCall) → is_hub_call (urb_call_code call) ≡ false
+not_of_hub on.Unlink = refl
+not_of_hub on.Kill = refl
+not_of_hub on.Poison = refl
+not_of_hub on.Unpoison = refl
+not_of_hub on.Block = refl
+not_of_hub on.Unblock = refl
+
+bare_built : (s : Scene) (call : BareCall) → IsBuilt s (bare_call_code call) target.Nothing
+bare_built s bare.Serve = inl refl
+bare_built s bare.Down = inr (inl refl)
+bare_built s bare.Up = inr (inr refl)
+
+-- a call of the hub stands in the hub's thread
+hub_free : (s : Scene) (call : BareCall) (thread : SceneThread) → may_call s (say.Alone call) ≡ true → last_thread s ≡ Some thread
+    → bytes_eq thread.name (codes "hub") ≡ false → is_hub_call (bare_call_code call) ≡ false
+hub_free s bare.Serve thread h last other = refl
+hub_free s bare.Down thread h last other = absurd (true≢false (sym h ∙ ap is_hub last ∙ other))
+hub_free s bare.Up thread h last other = absurd (true≢false (sym h ∙ ap is_hub last ∙ other))
+
+given_buffer : (bytes : Option (List ℕ)) → given_len bytes ≤ 16384 → IsBuffer bytes
+given_buffer None h = tt
+given_buffer (Some bytes) h = h
+
+pub submit_sound : (s : Scene) (line : ℕ) (v : Target) (setup bytes : Option (List ℕ)) → is_empty s.threads ≡ false → IsBuilt s 1 v → given_len bytes ≤ 16384 → line < 2 ^ 31
+    → IsSound s → IsSound (scene_calls s (plain_call line 1 v setup bytes))
+submit_sound s line v setup bytes some there few low h =
+    let c = plain_call line 1 v setup bytes in
+    let quiet = quiet_submit line v setup bytes in
+    call_sound s c some (record { line = low; built = there; setup = λ other. absurd (other refl); bytes = given_buffer bytes few })
+    (λ x e p. record { held = held_calmly x.calls c quiet p.0.held; fair = fair_quiet x.calls c quiet p.1; hub = λ other. refl }) h
+
+pub urb_sound : (s : Scene) (line : ℕ) (v : Target) (call : UrbCall) → is_empty s.threads ≡ false → IsBuilt s (urb_call_code call) v → line < 2 ^ 31
+    → cond (raises call) (nat_lt (held_on v (calls_of (last_thread s))) 100) true ≡ true
+    → cond (withdraws call) (nat_lt 0 (held_on v (calls_of (last_thread s)))) true ≡ true
+    → IsSound s → IsSound (scene_calls s (urb_call line v call))
+urb_sound s line v call some there low free held h =
+    let c = urb_call line v call in
+    call_sound s c some (record { line = low; built = there; setup = λ other. refl; bytes = tt })
+    (λ x e p.
+    let same : calls_of (last_thread s) ≡ x.calls = ap calls_of e in
+    let free_x = subst (λ (cs : List Call). cond (raises call) (nat_lt (held_on v cs) 100) true ≡ true) same free in
+    let held_x = subst (λ (cs : List Call). cond (withdraws call) (nat_lt 0 (held_on v cs)) true ≡ true) same held in
+    record { held = held_said call line v x.calls p.1 free_x held_x p.0.held; fair = fair_said call line v x.calls p.1 held_x; hub = λ other. not_of_hub call }) h
+
+pub alone_sound : (s : Scene) (line : ℕ) (call : BareCall) → is_empty s.threads ≡ false → line < 2 ^ 31 → may_call s (say.Alone call) ≡ true
+    → IsSound s → IsSound (scene_calls s (plain_call line (bare_call_code call) target.Nothing None None))
+alone_sound s line call some low hub h =
+    let c = plain_call line (bare_call_code call) target.Nothing None None in
+    let quiet = quiet_alone line call in
+    call_sound s c some (record { line = low; built = bare_built s call; setup = λ other. refl; bytes = tt })
+    (λ x e p. record { held = held_calmly x.calls c quiet p.0.held; fair = fair_quiet x.calls c quiet p.1; hub = hub_free s call x hub e }) h

@@ -1,0 +1,39 @@
+-- Examples that the checker computes.
+use Rattle.std.proofs.Common.{◌≡◌, [], ◌∷◌, Some, None, refl}
+use Rattle.std.specs.Prelude.{codes}
+use Rattle.hex.specs.Hex.{decode_pairs}
+use Rattle.usb_types.specs.declared.urb.Role.TheVariants as role
+use Rattle.usb_xfer.specs.declared.script.Kind.TheVariants.{Keyboard}
+use Rattle.usb_statement.specs.Statements.{keyword_of, statement_of}
+use Rattle.usb_statement.specs.Printed.{words_said}
+use Rattle.usb_statement.specs.declared.urb_name.UrbName.TheVariants.{Driver}
+use Rattle.usb_statement.specs.declared.statement.Statement.TheVariants as say
+use Rattle.usb_statement.specs.declared.keyword.Keyword.TheVariants as word
+use Rattle.usb_statement.specs.declared.keyword.DeviceBytes.TheVariants.{Desc, Config, Id}
+use Rattle.usb_statement.specs.declared.keyword.UrbCall.TheVariants.{Kill}
+
+a_keyboard : statement_of word.Device (codes "k" ∷ codes "keyboard" ∷ []) ≡ Some (say.Device (codes "k") Keyboard)
+a_keyboard = refl
+
+no_mouse : statement_of word.Device (codes "k" ∷ codes "mouse" ∷ []) ≡ None
+no_mouse = refl
+
+an_id : keyword_of (codes "id") ≡ Some (word.Bytes Id)
+an_id = refl
+
+joined_words : statement_of (word.Bytes Desc) (codes "1201" ∷ codes "-" ∷ codes "fill:2:0a" ∷ []) ≡ Some (say.Bytes Desc (18 ∷ 1 ∷ 10 ∷ 10 ∷ []))
+unfolding decode_pairs
+joined_words = refl
+
+no_words : statement_of (word.Bytes Config) [] ≡ None
+no_words = refl
+
+a_port : statement_of word.Port (codes "1F" ∷ []) ≡ Some (say.Port 31)
+unfolding decode_pairs
+a_port = refl
+
+a_read : statement_of (word.OnUrb Kill) (codes "k.007.in" ∷ []) ≡ Some (say.OnUrb Kill (Driver (codes "k") 7 role.In))
+a_read = refl
+
+a_port_is_printed : words_said (say.Port 31) ≡ codes "1F" ∷ []
+a_port_is_printed = refl
