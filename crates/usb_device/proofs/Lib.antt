@@ -1,6 +1,7 @@
 pub mod Lookups
 pub mod Calls
 pub mod Used
+pub mod Spending
 pub mod Asking
 pub mod Replying
 pub mod Starting

@@ -15,10 +15,12 @@ use Rattle.usb_device.specs.declared.scripted.Scripted.{Scripted}
 use Rattle.usb_device.specs.Acks.{is_taken, IsAcked}
 use Rattle.usb_device.specs.Rules.{Ruled}
 use Rattle.usb_device.specs.Device.{Call, state_after, reply_to, acked_at, AreAcked, Stands}
-use Rattle.usb_device.specs.Said.{word_of, packet_word, IsAsked}
+use Rattle.usb_device.specs.Left.{items_left}
+use Rattle.usb_device.specs.Said.{word_of, packet_word, IsAsked, Spends}
 use Rattle.usb_device.specs.Replied.{call_of, Replied}
 use Rattle.usb_device.proofs.Lookups.{each_set}
 use Rattle.usb_device.proofs.Used.{EndPlaced, EndAcked}
+use Rattle.usb_device.proofs.Spending.{left_same, left_acked}
 use Rattle.usb_device.proofs.Calls.{acked-snoc_here, acked-snoc_elsewhere}
 
 -- whoever asked, this was said
@@ -50,7 +52,7 @@ stands_now mid new script calls c said asked of free ends state none = record {
 }
 
 -- the rules leave a packet's state as it was, and refuse it
-fetch_word : (said : Said) (script : DeviceScript) (state : DeviceState) → word_of said script state Fetch ≡ record { reply = packet_word said; state = state }
+pub fetch_word : (said : Said) (script : DeviceScript) (state : DeviceState) → word_of said script state Fetch ≡ record { reply = packet_word said; state = state }
 fetch_word (Item what) script state = refl
 fetch_word (Other what) script state = refl
 fetch_word Rules script state = refl
@@ -60,11 +62,13 @@ send_word (Item what) script state packet = refl
 send_word (Other what) script state packet = refl
 send_word Rules script state packet = refl
 
-pub fetched : (old new : Scripted) (a : ℕ) (said : Said) → Asks old new a Fetch said → Replied old a Fetch (packet_word said) new
-fetched old new a said asks = record {
+pub fetched : (old new : Scripted) (a : ℕ) (said : Said) → Asks old new a Fetch said → Spends old new a (packet_word said) → Replied old a Fetch (packet_word said) new
+fetched old new a said asks spends = record {
   due = λ script calls stands. ap (λ (r : Ruled). r.reply) (sym (fetch_word said script (state_after script calls))) ∙ (asks script calls stands).reply;
   heard = λ script calls stands. let asked = asks script calls stands in
       stands_now new new script calls (call_of a Fetch) said asked refl refl refl (asked.state ∙ ap (λ (r : Ruled). r.state) (sym (fetch_word said script (state_after script calls)))) refl;
+  left = spends.left;
+  spent = spends.spent;
 }
 
 send_due : (old mid : Scripted) (a : ℕ) (said : Said) (packet : List ℕ) → Asks old mid a (Send packet) said → (script : DeviceScript) (calls : List Call) → Stands old script calls → packet_word said ≡ reply_to script calls (call_of a (Send packet))
@@ -93,23 +97,30 @@ is_no_ack Stall e = λ z. cc
 is_no_ack Error e = λ z. cc
 is_no_ack (Packet bytes) e = λ z. cc
 
-pub not_taken : (old new : Scripted) (a : ℕ) (packet : List ℕ) (said : Said) → Asks old new a (Send packet) said → packet_word said ≢ Ack → Replied old a (Send packet) (packet_word said) new
-not_taken old new a packet said asks off = record {
+pub not_taken : (old new : Scripted) (a : ℕ) (packet : List ℕ) (said : Said) → Asks old new a (Send packet) said → Spends old new a (packet_word said) → packet_word said ≢ Ack → Replied old a (Send packet) (packet_word said) new
+not_taken old new a packet said asks spends off = record {
   due = send_due old new a said packet asks;
   heard = λ script calls stands. let asked = asks script calls stands in
       stands_now new new script calls (call_of a (Send packet)) said asked refl refl refl (asked.state ∙ ap (λ (r : Ruled). r.state) (sym (send_word said script (state_after script calls) packet)))
       (no_ack packet (reply_to script calls (call_of a (Send packet))) (λ e. off (send_due old new a said packet asks script calls stands ∙ e)));
+  left = spends.left;
+  spent = spends.spent;
 }
 
 -- an Ack acknowledges the packet
-pub sent : (old mid new : Scripted) (a : ℕ) (packet : List ℕ) (said : Said) (end : ScriptedEnd) (acked : Acked) → Asks old mid a (Send packet) said → packet_word said ≡ Ack
+pub sent : (old mid new : Scripted) (a : ℕ) (packet : List ℕ) (said : Said) (end : ScriptedEnd) (acked : Acked) → Asks old mid a (Send packet) said → Spends old mid a (packet_word said) → packet_word said ≡ Ack
     → new.script.now ≡ mid.script.now → new.free ≡ mid.free → new.state ≡ mid.state → slice_get mid.ends.items a ≡ Some end → new.ends.items ≡ slice_set mid.ends.items a (record end { acked = acked })
     → ((before : List ℕ) → IsAcked end.acked before → IsAcked acked (before ++ packet)) → Replied old a (Send packet) (packet_word said) new
-sent old mid new a packet said end acked asks ack of free state there ends adds = record {
+sent old mid new a packet said end acked asks spends ack of free state there ends adds = record {
   due = send_due old mid a said packet asks;
   heard = λ script calls stands. go script calls stands (asks script calls stands);
+  left = omega (arith, same_left, spends.left);
+  spent = λ off is. omega (arith, same_left, spends.spent off is);
 }
   where
+    same_left : items_left new ≡ items_left mid
+    same_left = left_acked mid new a end acked there ends
+
     go : (script : DeviceScript) (calls : List Call) → Stands old script calls → IsAsked mid script calls (call_of a (Send packet)) said → Stands new script (calls ++ call_of a (Send packet) ∷ [])
     go script calls stands asked =
         let c = call_of a (Send packet) in
@@ -128,11 +139,13 @@ sent old mid new a packet said end acked asks ack of free state there ends adds 
         }
 
 -- a control transfer acknowledges no packet
-pub answered : (old mid new : Scripted) (setup : Setup) (out : List ℕ) (said : Said) → Asks old mid 0 (Ask setup out) said → new.script.now ≡ mid.script.now → new.free ≡ mid.free → new.ends.items ≡ mid.ends.items
+pub answered : (old mid new : Scripted) (setup : Setup) (out : List ℕ) (said : Said) → Asks old mid 0 (Ask setup out) said → Spends old mid 0 (packet_word said) → new.script.now ≡ mid.script.now → new.free ≡ mid.free → new.ends.items ≡ mid.ends.items
     → new.state ≡ (word_of said mid.script.now mid.state (Ask setup out)).state → Replied old 0 (Ask setup out) (word_of said mid.script.now mid.state (Ask setup out)).reply new
-answered old mid new setup out said asks of free ends state = record {
+answered old mid new setup out said asks spends of free ends state = record {
   due = λ script calls stands. let asked = asks script calls stands in ap (λ (r : Ruled). r.reply) (same script calls asked) ∙ asked.reply;
   heard = λ script calls stands. let asked = asks script calls stands in stands_now mid new script calls (call_of 0 (Ask setup out)) said asked of free ends (state ∙ ap (λ (r : Ruled). r.state) (same script calls asked)) refl;
+  left = omega (arith, left_same mid new ends, spends.left);
+  spent = λ off. absurd (off refl);
 }
   where
     same : (script : DeviceScript) (calls : List Call) → IsAsked mid script calls (call_of 0 (Ask setup out)) said → word_of said mid.script.now mid.state (Ask setup out) ≡ word_of said script (state_after script calls) (Ask setup out)

@@ -6,6 +6,7 @@ pub mod Rules
 pub mod Took
 pub mod Fresh
 pub mod Device
+pub mod Left
 pub mod Said
 pub mod Replied
 pub mod Laws

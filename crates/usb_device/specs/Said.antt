@@ -1,5 +1,5 @@
 -- What the script says to a question, before the rules reply where it is left to them.
-use Rattle.std.specs.Prelude.{ℕ, ◌≡◌, ◌+◌, List, [], ◌∷◌, ◌++◌, Option, Some, slice_get, slice_set}
+use Rattle.std.specs.Prelude.{ℕ, ◌≡◌, ◌+◌, ◌≢◌, ◌<◌, ◌≤◌, true, List, [], ◌∷◌, ◌++◌, Option, Some, slice_get, slice_set, MatchOption}
 use Rattle.std.specs.Borrow.{Bor}
 use Rattle.usb_xfer.specs.Replies.{Reply, Question}
 use Rattle.usb_xfer.specs.declared.script.What.{What}
@@ -13,6 +13,7 @@ use Rattle.usb_device.specs.declared.scripted.ScriptedEnd.{ScriptedEnd}
 use Rattle.usb_device.specs.declared.scripted.Scripted.{Scripted}
 use Rattle.usb_device.specs.Places.{coming, next_or}
 use Rattle.usb_device.specs.Rules.{Ruled}
+use Rattle.usb_device.specs.Left.{items_left, is_spent}
 use Rattle.usb_device.specs.Device.{Call, ruled, reply_to, state_after, ArePlaced, AreAcked}
 
 -- what is said, or what the rules make of it
@@ -36,7 +37,7 @@ pub record IsAsked (new : Scripted) (script : DeviceScript) (calls : List Call) 
   pub reply : (word_of said script (state_after script calls) c.question).reply ≡ reply_to script calls c
   pub next : (word_of said script (state_after script calls) c.question).state ≡ state_after script (calls ++ c ∷ [])
 
--- an item of an address was used, where one was left
+-- an item of an address was used, where one was left, and then fewer are left
 pub record Uses (old new : Scripted) (address : ℕ) (next : Option (Bor What)) : Type 0 where
   pub of : new.script.now ≡ old.script.now
   pub free : new.free ≡ old.free
@@ -47,3 +48,9 @@ pub record Uses (old new : Scripted) (address : ℕ) (next : Option (Bor What)) 
   pub ends : new.ends.items ≡ slice_set old.ends.items address (record end { place = place })
   pub item : (last : Reply) → next_or last next ≡ coming last end.place address 0
   pub on : (last : Reply) (k : ℕ) → coming last place address k ≡ coming last end.place address (k + 1)
+  pub left : MatchOption next (items_left new ≤ items_left old) (λ what. items_left new < items_left old)
+
+-- the items left never rise, and fall where an address other than 00 says what only an item says
+pub record Spends (old new : Scripted) (address : ℕ) (r : Reply) : Type 0 where
+  pub left : items_left new ≤ items_left old
+  pub spent : address ≢ 0 → is_spent address r ≡ true → items_left new < items_left old

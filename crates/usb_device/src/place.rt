@@ -26,6 +26,7 @@ impl<'a> Place<'a> {
     ghost use Rattle.usb_xfer.specs.Replies.{Reply};
     ghost use Rattle.usb_device.specs.Items.{items_at};
     ghost use Rattle.usb_device.specs.Places.{coming, next_or, IsAfter};
+    ghost use Rattle.usb_device.specs.Left.{place_left};
     ghost use Rattle.usb_xfer.specs.declared.script.What.TheVariants.{Nak};
 
     /// The place before all items of these lines.
@@ -45,6 +46,7 @@ impl<'a> Place<'a> {
         ensures item { (last : Reply) → next_or last result ≡ coming last self.old address 0 }
         ensures short { is_short (next_or Nak result) ≡ true }
         ensures next { (last : Reply) (k : ℕ) → coming last self.new address k ≡ coming last self.old address (k + 1) }
+        ensures left { MatchOption result (place_left self.new ≤ place_left self.old) (λ what. place_left self.new < place_left self.old) }
     {
         loop {
             match self.items {

@@ -56,7 +56,7 @@ impl<'a> Scripted<'a> {
     ghost use Rattle.usb_xfer.specs.declared.script.DeviceScript.{DeviceScript};
     ghost use Rattle.usb_device.specs.Short.{is_short, lines_are_short};
     ghost use Rattle.usb_device.specs.Device.{Call, acked_at, Stands};
-    ghost use Rattle.usb_device.specs.Said.{packet_word, Uses, IsAsked};
+    ghost use Rattle.usb_device.specs.Said.{packet_word, Uses, IsAsked, Spends};
     ghost use Rattle.usb_device.specs.Places.{next_or};
     ghost use Rattle.usb_xfer.specs.declared.script.What.TheVariants.{Nak};
     ghost use Rattle.usb_device.specs.Replied.{call_of};
@@ -102,6 +102,7 @@ impl<'a> Scripted<'a> {
     fn said_at_00(&mut self) -> Said<'a>
         ensures short { is_short (packet_word result) ≡ true }
         ensures asked { (script : DeviceScript) (calls : List Call) (question : Question) → Stands self.old script calls → IsAsked self.new script calls (call_of 0 question) result }
+        ensures spends { Spends self.old self.new 0 (packet_word result) }
     {
         if self.free > 0 {
             self.free -= 1;
@@ -120,6 +121,7 @@ impl<'a> Scripted<'a> {
         requires { address ≢ 0 }
         ensures short { is_short (packet_word result) ≡ true }
         ensures asked { (script : DeviceScript) (calls : List Call) (question : Question) → Stands self.old script calls → IsAsked self.new script calls (call_of address question) result }
+        ensures spends { Spends self.old self.new address (packet_word result) }
     {
         if self.state.halted[address as usize] {
             return Said::Other(What::Stall);
@@ -132,6 +134,7 @@ impl<'a> Scripted<'a> {
     fn said(&mut self, address: u8) -> Said<'a>
         ensures short { is_short (packet_word result) ≡ true }
         ensures asked { (script : DeviceScript) (calls : List Call) (question : Question) → Stands self.old script calls → IsAsked self.new script calls (call_of address question) result }
+        ensures spends { Spends self.old self.new address (packet_word result) }
     {
         if address == 0 {
             self.said_at_00()

@@ -1,12 +1,17 @@
 use Rattle.std.proofs.Common.{◌≡◌, true, false, refl, sym, ap, ◌∙◌, arith}
+use Rattle.usb_xfer.specs.declared.script.What.TheVariants.{Stall}
 use Rattle.usb_xfer.specs.declared.script.DeviceScript.{DeviceScript}
 use Rattle.usb_device.specs.Device.{is_raw, state_after}
 use Rattle.usb_device.proofs.Asking.{free_asked, raw_asked, other_asked}
+use Rattle.usb_device.proofs.Spending.{spends_none}
 use Rattle.usb_device.proofs.scripted.Scripted.said_at_00.Goals as goal
 
 pub returns-then-self-gt0-clause-asked : goal.returns-then-self-gt0-clause-asked
 returns-then-self-gt0-clause-asked c script calls question stands =
     free_asked script calls c.args.self.now _ question stands (omega arith) refl refl refl refl
+
+pub returns-then-self-gt0-clause-spends : goal.returns-then-self-gt0-clause-spends
+returns-then-self-gt0-clause-spends c = spends_none c.args.self.now _ 0 Stall refl (λ off. absurd (off refl))
 
 pub returns-then-is_raw-clause-asked : goal.returns-then-is_raw-clause-asked
 returns-then-is_raw-clause-asked c script calls question stands =

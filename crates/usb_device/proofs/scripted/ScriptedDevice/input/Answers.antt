@@ -6,6 +6,6 @@ use Rattle.usb_device.proofs.scripted.ScriptedDevice.input.Goals as goal
 pub returns : goal.returns
 returns c = (
   packet_word c.said.result,
-  fetched c.args.self.now c.said.new.self c.args.address c.said.result (λ script calls stands. c.said.ensures.asked script calls Fetch stands),
+  fetched c.args.self.now c.said.new.self c.args.address c.said.result (λ script calls stands. c.said.ensures.asked script calls Fetch stands) c.said.ensures.spends,
   c.heard_in.ensures,
 )
