@@ -1,10 +1,10 @@
 -- Each endpoint of a scene has an address of its own in its device.
-use Rattle.std.proofs.Common.{ℕ, suc, ◌≡◌, ◌+◌, ◌<◌, ◌≤◌, ⊎_elim, Some, List, [], ◌∷◌, ◌++◌, length, refl, subst, ◌∙◌, arith}
+use Rattle.std.proofs.Common.{ℕ, zero, suc, ◌≡◌, ◌+◌, ◌<◌, ◌≤◌, ⊎_elim, Some, List, [], ◌∷◌, ◌++◌, length, take, refl, sym, ap, subst, ◌∙◌, arith, length-append, add-zero, zero-add}
 use Rattle.std.specs.Prelude.{slice_get}
 use Rattle.usb_machine.specs.declared.layout.Shape.{Shape}
 use Rattle.usb_scene.specs.declared.scene.SceneDevice.{SceneDevice}
 use Rattle.usb_prepare.specs.Ends.{device_ends, shapes_from}
-use Rattle.usb_prepare.proofs.Lists.{in_either}
+use Rattle.usb_prepare.proofs.Lists.{in_either, in_front, get_behind}
 use Rattle.usb_prepare.proofs.Own.{AreOwn, ends_own}
 use Rattle.usb_prepare.proofs.Numbering.{AreDevices, first_is, others_are}
 
@@ -74,3 +74,19 @@ of_device n (d ∷ ds) all i x at = ⊎_elim
     let same : n + 1 + o.0 ≡ n + suc o.0 = omega arith in
     (suc o.0, o.1, o.2, o.3, o.4 ∙ same, subst (λ (m : ℕ). slice_get (device_ends m o.1) o.2 ≡ Some x) same o.5))
     (in_either (device_ends n d) (shapes_from (n + 1) ds) i x at)
+
+-- and the endpoints of a device stand behind those of the devices before it
+pub stands_behind : (n d : ℕ) (ds : List SceneDevice) (device : SceneDevice) (k : ℕ) (x : Shape) → slice_get ds d ≡ Some device → slice_get (device_ends (n + d) device) k ≡ Some x
+    → slice_get (shapes_from n ds) (length (shapes_from n (take d ds)) + k) ≡ Some x
+stands_behind n d [] device k x at is = cc
+stands_behind n zero (y ∷ ds) device k x at is =
+    let same : y ≡ device = cc in
+    ap (slice_get (shapes_from n (y ∷ ds))) (zero-add k)
+    ∙ in_front (device_ends n y) (shapes_from (n + 1) ds) k x ((λ i. slice_get (device_ends (sym (add-zero n) i) (same i)) k) ∙ is)
+stands_behind n (suc d) (y ∷ ds) device k x at is =
+    let next : n + 1 + d ≡ n + suc d = omega arith in
+    let before = shapes_from (n + 1) (take d ds) in
+    let rest = stands_behind (n + 1) d ds device k x at (ap (λ m. slice_get (device_ends m device) k) next ∙ is) in
+    let long = length-append (device_ends n y) before in
+    let place : length (device_ends n y ++ before) + k ≡ length (device_ends n y) + (length before + k) = omega arith in
+    ap (slice_get (shapes_from n (y ∷ ds))) place ∙ (get_behind (device_ends n y) (shapes_from (n + 1) ds) (length before + k) ∙ rest)

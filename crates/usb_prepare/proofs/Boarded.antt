@@ -1,11 +1,12 @@
 -- What holds of the board and the pool all along the probes: the scene's own URBs are out with their homes, and behind
--- them those of the bindings, each with an endpoint that is there.
+-- them those of the bindings, each with the endpoint of its role.
 use Rattle.std.proofs.Common.{ℕ, zero, suc, ◌≡◌, ◌+◌, ◌-◌, ◌<◌, ◌≤◌, ◌⊎◌, inl, inr, ⊎_elim, Bool, true, false, cond, Option, Some, None, Result, Ok, Err, List, [], ◌∷◌, ◌++◌, length, map, refl, sym, ap, ◌∙◌, subst, arith, append_assoc, append-nil, length-append, add-zero}
-use Rattle.std.specs.Prelude.{slice_get, slice_index}
+use Rattle.std.specs.Prelude.{slice_get, slice_index, option_map}
 use Rattle.std.specs.List.{All}
 use Rattle.std.specs.Option.{option_flatten, option_map_or}
 use Rattle.std.proofs.lemmas.List.{length-map}
-use Rattle.std.proofs.lemmas.Option.{slice_get_within}
+use Rattle.std.proofs.lemmas.Option.{slice_get_within, slice_get-map}
+use Rattle.usb_types.specs.declared.urb.Role.{Role}
 use Rattle.usb_types.specs.declared.urb.UrbId.{UrbId}
 use Rattle.usb_machine.specs.History.{or_zero}
 use Rattle.usb_desc.specs.declared.tree.Alt.{Alt}
@@ -17,10 +18,10 @@ use Rattle.usb_bind.specs.declared.fault.ProbeFault.{ProbeFault}
 use Rattle.usb_bind.specs.Interfaces.{host_ends, interfaces_of, shape_of_end}
 use Rattle.usb_bind.specs.Pool.{Homes, spare_in}
 use Rattle.usb_bind.specs.Profile.{profile_rows}
-use Rattle.usb_bind.specs.Needs.{Need}
+use Rattle.usb_bind.specs.Needs.{Need, roles_of}
 use Rattle.usb_bind.specs.Board.{BoardValue, with_binding}
 use Rattle.usb_bind.specs.Probe.{home_of, in_slots, all_next, all_taken, probed, pool_after}
-use Rattle.usb_bind.proofs.Binding.{IsPlace, IsPlaced, IsMade, is_made}
+use Rattle.usb_bind.proofs.Binding.{IsPlace, IsPlaced, IsMade}
 use Rattle.usb_scene.specs.declared.scene.Scene.{Scene}
 use Rattle.usb_scene.specs.declared.scene.SceneDevice.{SceneDevice}
 use Rattle.usb_scene.specs.declared.scene.SceneUrb.{SceneUrb}
@@ -30,7 +31,8 @@ use Rattle.usb_prepare.specs.Probing.{Asked, Probing, ask_each, requests_of, set
 use Rattle.usb_prepare.specs.Prepared.{Probes, with_device, probing_from, probed_device, probed_from, enumeration_of, attached_from, board_of, pool_of, probes_of}
 use Rattle.usb_prepare.proofs.Below.{get-map_below}
 use Rattle.usb_prepare.specs.declared.found.Probe.TheVariants as probe
-use Rattle.usb_prepare.proofs.Lists.{in_either, in_longer, fold_keeps}
+use Rattle.usb_prepare.proofs.Lists.{in_either, in_longer, in_front, get_behind, is_there, fold_keeps}
+use Rattle.usb_prepare.proofs.Needed.{IsFor, IsDue, is_due}
 use Rattle.usb_prepare.proofs.Numbering.{ends_within}
 use Rattle.usb_prepare.proofs.Pooled.{pool_with, spare_is, all_out, slots_out, slot_is}
 
@@ -40,6 +42,35 @@ own_homes s = map (λ (u : SceneUrb). or_zero (home_at s u)) s.urbs
 
 abbrev HasUrb : List Bound → ℕ → ℕ → UrbId → Type 0
 HasUrb bindings i k u = (b : Bound) × (slice_get bindings i ≡ Some b) × (slice_get b.urbs k ≡ Some (Some u))
+
+-- where a place behind a device's first endpoint is
+abbrev pub behind_first : ℕ → Option ℕ → ℕ
+behind_first first place = option_map_or (λ p. first + 1 + p) place first
+
+-- an URB of a binding has its home at an endpoint of the binding's device, which is enumerated: the one of its role
+pub record HasHome (s : Scene) (homes : List ℕ) (b : Bound) (k u : ℕ) : Type 0 where
+  pub device : SceneDevice
+  pub at : slice_get s.devices b.device ≡ Some device
+  pub attached : Attached
+  pub is : attached_as b.device device ≡ Some attached
+  pub role : Role
+  pub slot : slice_get (roles_of b.driver) k ≡ Some role
+  pub place : Option ℕ
+  pub due : IsFor (host_ends attached.config) role place
+  pub home : slice_get homes u ≡ Some (behind_first (first_end s.devices b.device) place)
+
+still_home : (s : Scene) (homes more : List ℕ) (b : Bound) (k u : ℕ) → HasHome s homes b k u → HasHome s (homes ++ more) b k u
+still_home s homes more b k u has = record {
+  device = has.device;
+  at = has.at;
+  attached = has.attached;
+  is = has.is;
+  role = has.role;
+  slot = has.slot;
+  place = has.place;
+  due = has.due;
+  home = in_front homes more u (behind_first (first_end s.devices b.device) has.place) has.home;
+}
 
 pub record IsBoarded (s : Scene) (board : BoardValue) (pool : Homes) : Type 0 where
   pub devices : board.devices ≡ attached_from 0 s.devices
@@ -51,6 +82,8 @@ pub record IsBoarded (s : Scene) (board : BoardValue) (pool : Homes) : Type 0 wh
   pub low : (k h : ℕ) → slice_get drivers k ≡ Some h → h < ends_of s
   pub urbs : (i k : ℕ) (u : UrbId) → HasUrb board.bindings i k u → (length s.urbs ≤ u.0) × (u.0 < length s.urbs + length drivers)
   pub once : (i j k l : ℕ) (u : UrbId) → HasUrb board.bindings i k u → HasUrb board.bindings j l u → (i ≡ j) × (k ≡ l)
+  pub count : length board.bindings ≤ length drivers
+  pub homes : (i k : ℕ) (u : UrbId) (has : HasUrb board.bindings i k u) → HasHome s (own_homes s ++ drivers) has.0 k u.0
 
 -- before the first probe
 pub boarded_start : (s : Scene) → IsWellFormed s → IsBoarded s (board_of s) (pool_of s)
@@ -64,6 +97,8 @@ boarded_start s good = record {
   low = λ k h at. cc;
   urbs = λ i k u has. cc;
   once = λ i j k l u a b. cc;
+  count = omega arith;
+  homes = λ i k u has. cc;
 }
 
 -- the device that a board has attached
@@ -90,7 +125,10 @@ homes_low first count top (x ∷ needs) all most zero h at = let same : home_of 
 homes_low first count top (x ∷ needs) all most (suc k) h at = homes_low first count top needs (λ j d l. all (suc j) d (omega arith)) most k h at
 
 module _ (s : Scene) (good : IsWellFormed s) (board : BoardValue) (pool : Homes) (old : IsBoarded s board pool) (rows : List IdRow) (d interface : ℕ) (b : Bound)
-    (made : IsMade board pool rows d interface b) where
+    (due : IsDue board pool rows d interface b) where
+  abbrev made : IsMade board pool rows d interface b
+  made = due.made
+
   abbrev own : List ℕ
   own = own_homes s
 
@@ -118,11 +156,13 @@ module _ (s : Scene) (good : IsWellFormed s) (board : BoardValue) (pool : Homes)
       let same : 0 + d ≡ d = omega arith in
       (a.0, a.1, ap (λ k. attached_as k a.0) (sym same) ∙ a.2)
 
+  at_first : first ≡ first_end s.devices d
+  at_first = let near = slice_get_within s.devices d there.0 there.1 in ap (λ l. slice_index l d) old.firsts ∙ get-map_below (first_end s.devices) (length s.devices) d 0 near
+
   most : first + (length (host_ends made.attached.config) + 1) ≤ ends_of s
   unfolding shapes_of
   most =
-      let near = slice_get_within s.devices d there.0 there.1 in
-      let at : first ≡ first_end s.devices d = ap (λ l. slice_index l d) old.firsts ∙ get-map_below (first_end s.devices) (length s.devices) d 0 near in
+      let at = at_first in
       let within = ends_within s good d there.0 there.1 in
       let long = attached_long d there.0 made.attached there.2 in
       omega arith
@@ -182,6 +222,34 @@ module _ (s : Scene) (good : IsWellFormed s) (board : BoardValue) (pool : Homes)
       (either_urb j l u q))
       (either_urb i k u p)
 
+  -- and their homes
+  new_home : (k : ℕ) (u : UrbId) → slice_get b.urbs k ≡ Some (Some u) → HasHome s ((own ++ old.drivers) ++ new) b k u.0
+  new_home k u at =
+      let number = new_urb k u at in
+      let long = new_long in let o = out_long in let near = number.1 in let n = number.0 in
+      let need = is_there made.needs k (omega arith) in
+      let role = due.each k need.0 need.1 in
+      let place : u.0 ≡ length (own ++ old.drivers) + k = omega arith in
+      let mapped : slice_get new k ≡ Some (home_of first need.0) = slice_get-map (home_of first) made.needs k ∙ ap (option_map (home_of first)) need.1 in
+      let start : first ≡ first_end s.devices b.device = at_first ∙ ap (first_end s.devices) (sym made.device) in
+      record {
+        device = there.0;
+        at = ap (slice_get s.devices) made.device ∙ there.1;
+        attached = made.attached;
+        is = ap (λ n. attached_as n there.0) made.device ∙ there.2;
+        role = role.0;
+        slot = role.1;
+        place = need.0.place;
+        due = role.2;
+        home = ap (slice_get ((own ++ old.drivers) ++ new)) place ∙ (get_behind (own ++ old.drivers) new k ∙ (mapped ∙ ap (λ n. Some (behind_first n need.0.place)) start));
+      }
+
+  all_homes : (i k : ℕ) (u : UrbId) (has : HasUrb bindings i k u) → HasHome s (own ++ (old.drivers ++ new)) has.0 k u.0
+  all_homes i k u has = subst (λ l. HasHome s l has.0 k u.0) (append_assoc own old.drivers new) (⊎_elim
+      (λ (l : slice_get board.bindings i ≡ Some has.0). still_home s (own ++ old.drivers) new has.0 k u.0 (old.homes i k u (has.0, l, has.2)))
+      (λ (r : (i ≡ length board.bindings) × (has.0 ≡ b)). subst (λ (x : Bound). HasHome s ((own ++ old.drivers) ++ new) x k u.0) (sym r.1) (new_home k u (ap (λ (x : Bound). slice_get x.urbs k) (sym r.1) ∙ has.2)))
+      (in_longer board.bindings b has.0 i has.1))
+
   boarded_more : IsBoarded s (with_binding board b) (pool_after board pool rows d interface)
   boarded_more = record {
     devices = old.devices;
@@ -193,6 +261,8 @@ module _ (s : Scene) (good : IsWellFormed s) (board : BoardValue) (pool : Homes)
     low = all_low;
     urbs = all_urbs;
     once = all_once;
+    count = (let some = due.some in let count = old.count in let sum = new_long_sum in let long = new_long in let one = length-append board.bindings (b ∷ []) in omega arith);
+    homes = all_homes;
   }
 
 module _ (s : Scene) (good : IsWellFormed s) where
@@ -217,7 +287,7 @@ module _ (s : Scene) (good : IsWellFormed s) where
 
       go : (r : Result Bound ProbeFault) → probed p.board p.pool profile_rows d alt.number ≡ r → IsBoarded s (probed_by script p pool r).board (probed_by script p pool r).pool
       go (Ok b) at = settled_boarded p b pool (ask_each script p.calls (requests_of b.driver b.interface)) old
-          (boarded_more s good p.board p.pool old profile_rows d alt.number b (is_made p.board p.pool profile_rows d alt.number b at))
+          (boarded_more s good p.board p.pool old profile_rows d alt.number b (is_due p.board p.pool profile_rows d alt.number b at))
       go (Err fault) at = old
 
   device_boarded : (d : ℕ) (script : DeviceScript) (o : Option Attached) (p : Probing) → IsBoarded s p.board p.pool → IsBoarded s (probed_device d script o p).board (probed_device d script o p).pool

@@ -1,5 +1,6 @@
--- What holds of the endpoints and URBs of a well-formed scene. Whatever stands on this crate uses these facts alone.
-use Rattle.std.proofs.Common.{ℕ, zero, suc, ◌≡◌, ◌+◌, ◌<◌, ◌≤◌, ◌^◌, ⊎_elim, Bool, true, false, ◌&&◌, cond, eqb, Option, Some, None, List, [], ◌∷◌, ◌++◌, length, get_or, map, refl, sym, ap, ◌∙◌, subst, arith, length-append}
+-- What holds of the endpoints and URBs of a well-formed scene, and of its devices before the run. Whatever stands on this
+-- crate uses these facts alone.
+use Rattle.std.proofs.Common.{ℕ, zero, suc, ◌≡◌, ◌≢◌, ◌+◌, ◌<◌, ◌≤◌, ◌^◌, ⊎_elim, Bool, true, false, ◌&&◌, cond, eqb, Option, Some, None, List, [], ◌∷◌, ◌++◌, length, get_or, map, refl, sym, ap, ◌∙◌, subst, arith, length-append, add-zero, zero-add}
 use Rattle.std.specs.Prelude.{slice_index_or, slice_get, find, option_and_then, option_map}
 use Rattle.std.specs.List.{All}
 use Rattle.std.specs.Option.{option_flatten}
@@ -10,30 +11,43 @@ use Rattle.std.proofs.lemmas.List.Quantifiers.{position-Some}
 use Rattle.usb_types.specs.declared.urb.Role.{Role}
 use Rattle.usb_types.specs.declared.urb.Role.TheVariants.{In, Note, Read0, Read1, Write, Ctl}
 use Rattle.usb_types.specs.declared.urb.UrbId.{UrbId}
+use Rattle.usb_machine.specs.declared.layout.EndKind.TheVariants.{Control}
 use Rattle.usb_machine.specs.declared.layout.Shape.{Shape}
 use Rattle.usb_machine.specs.History.{or_zero}
 use Rattle.usb_machine.specs.Queues.{HomeIsBelow}
 use Rattle.usb_machine.specs.Plain.{IsLayout}
-use Rattle.usb_xfer.specs.Direction.{asked_at}
+use Rattle.usb_desc.specs.declared.tree.End.{End}
+use Rattle.usb_ctrl.specs.declared.enumerator.Attached.{Attached}
+use Rattle.usb_xfer.specs.Direction.{goes_in, asked_at}
+use Rattle.usb_device.specs.Device.{Call, questions_at}
+use Rattle.usb_device.specs.Laws.{NoneHalts}
 use Rattle.usb_bind.specs.declared.row.Driver.{Driver}
 use Rattle.usb_bind.specs.declared.row.Driver.TheVariants.{Keyboard, Acm, Printer}
 use Rattle.usb_bind.specs.declared.bound.Bound.{Bound}
+use Rattle.usb_bind.specs.Interfaces.{host_ends, shape_of_end}
+use Rattle.usb_bind.specs.Needs.{is_in, roles_of}
 use Rattle.usb_bind.specs.Board.{is_binding_of, urb_by, urb_of_role}
 use Rattle.usb_scene.specs.declared.scene.Scene.{Scene}
 use Rattle.usb_scene.specs.declared.scene.SceneDevice.{SceneDevice}
 use Rattle.usb_scene.specs.declared.scene.SceneUrb.{SceneUrb}
-use Rattle.usb_scene.specs.WellFormed.{HasEnd, IsUrb, IsWellFormed}
-use Rattle.usb_prepare.specs.Ends.{control_end, shapes_of, ends_of, is_at, home_at, or_control, shape_at, raw_in, is_raw_at}
+use Rattle.usb_scene.specs.WellFormed.{HasEnd, IsUrb, is_raw, IsWellFormed}
+use Rattle.usb_prepare.specs.Enumerated.{attached_of}
+use Rattle.usb_prepare.specs.Ends.{address_of, attached_as, control_of, control_end, control_size, other_ends, device_ends, shapes_of, ends_of, first_end, is_at, home_at, or_control, shape_at, raw_in, is_raw_at}
 use Rattle.usb_prepare.specs.Prepared.{probes_of, bindings_of}
 use Rattle.usb_prepare.specs.Layout.{homes_of, layout_of, urb_count, home, urb_in, role_urb}
 use Rattle.usb_prepare.proofs.Numbering as numbering
 use Rattle.usb_prepare.proofs.Numbering.{devices_at}
-use Rattle.usb_prepare.proofs.Apart.{AreApart, shapes_apart, shapes_between}
+use Rattle.usb_prepare.proofs.Apart.{AreApart, shapes_apart, shapes_between, stands_behind}
 use Rattle.usb_prepare.proofs.Homed.{homes_at}
 use Rattle.usb_prepare.proofs.Asked.{asked_at_home}
 use Rattle.usb_prepare.proofs.Pooled.{up_to_out}
-use Rattle.usb_prepare.proofs.Lists.{in_either}
-use Rattle.usb_prepare.proofs.Boarded.{own_homes, IsBoarded, boarded}
+use Rattle.usb_prepare.proofs.Lists.{in_either, in_front, is_there}
+use Rattle.usb_prepare.proofs.Host.{host_apart}
+pub use Rattle.usb_prepare.proofs.Needed.{brings}
+use Rattle.usb_prepare.proofs.Needed.{IsFor}
+use Rattle.usb_prepare.proofs.Boarded.{own_homes, behind_first, HasHome, IsBoarded, boarded}
+use Rattle.usb_prepare.proofs.Bare.{bare_elsewhere, bare_halts}
+use Rattle.usb_prepare.proofs.Whole.{heard_bare}
 use Rattle.usb_bind.specs.Pool.{up_to_last}
 
 -- an endpoint that is there has its shape
@@ -60,6 +74,22 @@ role_at Acm (suc (suc (suc zero))) = Write
 role_at Acm (suc (suc (suc (suc k)))) = Ctl
 role_at Printer zero = Write
 role_at Printer (suc k) = Ctl
+
+-- and that its driver lists there
+named : (driver : Driver) (k : ℕ) (role : Role) → slice_get (roles_of driver) k ≡ Some role → role_at driver k ≡ role
+unfolding role_at
+named Keyboard zero role at = cc
+named Keyboard (suc zero) role at = cc
+named Keyboard (suc (suc k)) role at = cc
+named Acm zero role at = cc
+named Acm (suc zero) role at = cc
+named Acm (suc (suc zero)) role at = cc
+named Acm (suc (suc (suc zero))) role at = cc
+named Acm (suc (suc (suc (suc zero)))) role at = cc
+named Acm (suc (suc (suc (suc (suc k))))) role at = cc
+named Printer zero role at = cc
+named Printer (suc zero) role at = cc
+named Printer (suc (suc k)) role at = cc
 
 IsSlot : Driver → Bound → Role → UrbId → Type 0
 IsSlot driver b role u = (k : ℕ) × (slice_get b.urbs k ≡ Some (Some u)) × (role_at driver k ≡ role)
@@ -140,6 +170,34 @@ of_role bindings d interface u role is = go (find (is_binding_of d interface) bi
     go None f is = cc
     go (Some b) f is = with_urb b f (urb_of_role b role) refl is
 
+-- the place of a role that isn't for control transfers
+other_place : (ends : List End) (role : Role) (place : Option ℕ) → role ≢ Ctl → IsFor ends role place
+    → (p : ℕ) × (e : End) × (place ≡ Some p) × (slice_get ends p ≡ Some e) × (brings role ≡ true → is_in e ≡ true)
+other_place ends Ctl place off is = absurd (off refl)
+other_place ends In place off is = is
+other_place ends Note place off is = is
+other_place ends Read0 place off is = is
+other_place ends Read1 place off is = is
+other_place ends Write place off is = is
+
+-- a device that is enumerated isn't raw, and has endpoint 00 and those of its configuration
+attached_not_raw : (d : ℕ) (device : SceneDevice) (a : Attached) → attached_as d device ≡ Some a → is_raw device.script.kind ≡ false
+unfolding attached_as
+attached_not_raw d device a is = go (is_raw device.script.kind) is
+  where
+    go : (raw : Bool) → cond raw None (attached_of device.script (address_of d)) ≡ Some a → raw ≡ false
+    go true e = cc
+    go false e = refl
+
+first_of : (d : ℕ) (device : SceneDevice) → slice_get (device_ends d device) 0 ≡ Some (control_of d (control_size (attached_as d device)))
+unfolding device_ends
+first_of d device = refl
+
+other_end : (d p : ℕ) (device : SceneDevice) (a : Attached) (e : End) → attached_as d device ≡ Some a → slice_get (host_ends a.config) p ≡ Some e → slice_get (device_ends d device) (suc p) ≡ Some (shape_of_end d e)
+unfolding device_ends
+other_end d p device a e is at =
+    ap (λ o. slice_get (other_ends d device.script.ends o) p) is ∙ (slice_get-map (shape_of_end d) (host_ends a.config) p ∙ ap (option_map (shape_of_end d)) at)
+
 below_all : (top : ℕ) (hs : List ℕ) → ((k h : ℕ) → slice_get hs k ≡ Some h → h < top) → All (HomeIsBelow top) (map Some hs)
 below_all top [] low k d l = absurd (omega arith)
 below_all top (h ∷ hs) low zero d l = low 0 h refl
@@ -213,12 +271,12 @@ module _ (s : Scene) (good : IsWellFormed s) where
   pub home_near : (u : ℕ) → u < urb_count s → home s u < ends_of s
   home_near u near = let at = some_home u near in subst (λ (e : ℕ). e < ends_of s) (sym (ap or_zero at.1)) at.2
 
-  -- the home of one of the scene's own URBs has the URB's device and address
-  in_front : {X : Type 0} (xs ys : List X) (i : ℕ) (x : X) → slice_get xs i ≡ Some x → slice_get (xs ++ ys) i ≡ Some x
-  in_front [] ys i x at = cc
-  in_front (y ∷ xs) ys zero x at = at
-  in_front (y ∷ xs) ys (suc i) x at = in_front xs ys i x at
+  -- the home of an URB that is out
+  out_home : (u h : ℕ) → slice_get out u ≡ Some h → home s u ≡ h
+  out_home u h at =
+      ap or_zero (ap (λ (l : List (Option ℕ)). slice_index_or {A = Option ℕ} l u None) homes_are ∙ get_or_from_slice_get (map Some out) u (Some h) None (slice_get-map Some out u ∙ ap (option_map Some) at))
 
+  -- the home of one of the scene's own URBs has the URB's device and address
   own_place : (us : List SceneUrb) → All (IsUrb s) us → (u : ℕ) (urb : SceneUrb) → slice_get us u ≡ Some urb → home_at s urb ≡ Some (or_zero (home_at s urb))
   own_place [] all u urb at = cc
   own_place (x ∷ us) all zero urb at =
@@ -231,9 +289,7 @@ module _ (s : Scene) (good : IsWellFormed s) where
   own_home : (u : ℕ) (urb : SceneUrb) → slice_get s.urbs u ≡ Some urb → home_at s urb ≡ Some (home s u)
   own_home u urb at =
       let front = in_front (own_homes s) known.drivers u (or_zero (home_at s urb)) (slice_get-map (λ (u : SceneUrb). or_zero (home_at s u)) s.urbs u ∙ ap (option_map (λ (u : SceneUrb). or_zero (home_at s u))) at) in
-      let is : slice_index_or {A = Option ℕ} (homes_of s) u None ≡ Some (or_zero (home_at s urb)) =
-      ap (λ (l : List (Option ℕ)). slice_index_or {A = Option ℕ} l u None) homes_are ∙ get_or_from_slice_get (map Some out) u (Some (or_zero (home_at s urb))) None (slice_get-map Some out u ∙ ap (option_map Some) front) in
-      own_place s.urbs good.urbs u urb at ∙ ap Some (sym (ap or_zero is))
+      own_place s.urbs good.urbs u urb at ∙ ap Some (sym (out_home u (or_zero (home_at s urb)) front))
 
   module _ (u : ℕ) (urb : SceneUrb) (at : slice_get s.urbs u ≡ Some urb) where
     found : (home s u < ends_of s) × ((shape_at s (home s u)).device ≡ urb.device) × ((shape_at s (home s u)).address ≡ urb.address)
@@ -317,3 +373,77 @@ module _ (s : Scene) (good : IsWellFormed s) where
     where
       one_of : {v w : Bound} → ◌≡◌ {A = Option Bound} (Some v) (Some w) → v ≡ w
       one_of p = cc
+
+  -- a binding's URBs stand behind the scene's own
+  pub bound_near : (i : ℕ) (b : Bound) (role : Role) (u : UrbId) → slice_get (bindings_of s) i ≡ Some b → urb_of_role b role ≡ Some u → (length s.urbs ≤ u.0) × (u.0 < urb_count s)
+  unfolding IsSlot
+  bound_near i b role u at has =
+      let slot = by_driver b.driver b role u has in
+      let is = known.urbs i slot.0 u (b, at, slot.1) in
+      let count = count_is in let near = is.1 in
+      (is.0, omega arith)
+
+  -- each has one or more of the 256
+  pub bindings_few : length (bindings_of s) ≤ 256
+  bindings_few = let count = known.count in let all = known.all in omega arith
+
+  -- the k-th endpoint of a device
+  kth_end : (d k : ℕ) (device : SceneDevice) (x : Shape) → slice_get s.devices d ≡ Some device → slice_get (device_ends d device) k ≡ Some x → shape_at s (first_end s.devices d + k) ≡ x
+  unfolding shapes_of
+  kth_end d k device x at is = ap or_control (stands_behind 0 d s.devices device k x at (ap (λ n. slice_get (device_ends n device) k) (zero-add d) ∙ is))
+
+  module _ (i : ℕ) (b : Bound) (role : Role) (u : UrbId) (at : slice_get (bindings_of s) i ≡ Some b) (has : urb_of_role b role ≡ Some u) where
+    -- the slot of the URB, and its home
+    bound_home : (k : ℕ) × (role_at b.driver k ≡ role) × HasHome s out b k u.0
+    unfolding IsSlot
+    bound_home = let slot = by_driver b.driver b role u has in (slot.0, slot.2, known.homes i slot.0 u (b, at, slot.1))
+
+    is_bound_at : HasHome s out b bound_home.0 u.0
+    is_bound_at = bound_home.2
+
+    for_role : IsFor (host_ends is_bound_at.attached.config) role is_bound_at.place
+    for_role = subst (λ (r : Role). IsFor (host_ends is_bound_at.attached.config) r is_bound_at.place) (sym (named b.driver bound_home.0 is_bound_at.role is_bound_at.slot) ∙ bound_home.1) is_bound_at.due
+
+    -- a binding's device isn't raw
+    pub bound_not_raw : is_raw_at s b.device ≡ false
+    bound_not_raw = ap raw_in is_bound_at.at ∙ attached_not_raw b.device is_bound_at.device is_bound_at.attached is_bound_at.is
+
+    -- the home of an URB that isn't for control transfers is an endpoint of the device beside 00
+    other_home : role ≢ Ctl → (p : ℕ) × (e : End) × (shape_at s (home s u.0) ≡ shape_of_end b.device e) × (slice_get (host_ends is_bound_at.attached.config) p ≡ Some e) × (brings role ≡ true → is_in e ≡ true)
+    other_home off =
+        let place = other_place (host_ends is_bound_at.attached.config) role is_bound_at.place off for_role in
+        let first = first_end s.devices b.device in
+        let next : first + 1 + place.0 ≡ first + suc place.0 = omega arith in
+        let home_is : home s u.0 ≡ first + suc place.0 = out_home u.0 (behind_first first is_bound_at.place) is_bound_at.home ∙ (ap (behind_first first) place.2 ∙ next) in
+        let shape : shape_at s (home s u.0) ≡ shape_of_end b.device place.1 = ap (shape_at s) home_is ∙ kth_end b.device (suc place.0) is_bound_at.device (shape_of_end b.device place.1) is_bound_at.at
+        (other_end b.device place.0 is_bound_at.device is_bound_at.attached place.1 is_bound_at.is place.3) in
+        (place.0, place.1, shape, place.3, place.4)
+
+    pub bound_home_other : role ≢ Ctl → ((shape_at s (home s u.0)).device ≡ b.device) × ((shape_at s (home s u.0)).address ≢ 0)
+    bound_home_other off =
+        let home = other_home off in
+        let some = (host_apart is_bound_at.attached.config).some home.0 home.1 home.3 in
+        let address = ap (λ (x : Shape). x.address) home.2 in
+        (ap (λ (x : Shape). x.device) home.2, λ e. absurd (omega arith))
+
+    -- and where its transfers bring data in, the endpoint's address says so
+    pub bound_home_in : role ≢ Ctl → brings role ≡ true → goes_in (shape_at s (home s u.0)).address ≡ true
+    bound_home_in off comes = let home = other_home off in ap (λ (x : Shape). goes_in x.address) home.2 ∙ home.4 comes
+
+  -- and that of one for control transfers is 00
+  pub bound_home_ctl : (i : ℕ) (b : Bound) (u : UrbId) → slice_get (bindings_of s) i ≡ Some b → urb_of_role b Ctl ≡ Some u
+      → ((shape_at s (home s u.0)).device ≡ b.device) × ((shape_at s (home s u.0)).address ≡ 0) × ((shape_at s (home s u.0)).kind ≡ Control)
+  bound_home_ctl i b u at has =
+      let is = is_bound_at i b Ctl u at has in
+      let place : is.place ≡ None = for_role i b Ctl u at has in
+      let first = first_end s.devices b.device in
+      let home_is : home s u.0 ≡ first + 0 = out_home u.0 (behind_first first is.place) is.home ∙ (ap (behind_first first) place ∙ sym (add-zero first)) in
+      let shape : shape_at s (home s u.0) ≡ control_of b.device (control_size (attached_as b.device is.device)) = ap (shape_at s) home_is ∙ kth_end b.device 0 is.device (control_of b.device (control_size (attached_as b.device is.device))) is.at (first_of b.device is.device) in
+      (ap (λ (x : Shape). x.device) shape, ap (λ (x : Shape). x.address) shape, ap (λ (x : Shape). x.kind) shape)
+
+  -- before the run a device was asked at 00 alone, and no endpoint of it halted
+  pub unhalted_before : (d : ℕ) (device : SceneDevice) (calls : List Call) → slice_get s.devices d ≡ Some device → slice_get (probes_of s).heard d ≡ Some calls
+      → NoneHalts calls × ((address : ℕ) → address ≢ 0 → questions_at address calls ≡ [])
+  unhalted_before d device calls at heard =
+      let bare = heard_bare s d device calls at heard in
+      (bare_halts calls bare, bare_elsewhere calls bare)

@@ -10,6 +10,7 @@ mod Apart
 mod Homed
 mod Asked
 mod Pooled
+mod Needed
 mod Boarded
 mod Steps
 mod Turns
@@ -18,6 +19,7 @@ mod Answering
 mod Probed
 mod InFace
 mod Begins
+mod Bare
 pub mod Facts
 pub mod Short
 mod Whole

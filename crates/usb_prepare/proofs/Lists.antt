@@ -1,5 +1,5 @@
 -- What stands in lists.
-use Rattle.std.proofs.Common.{ℕ, zero, suc, ◌≡◌, ◌≢◌, ◌+◌, ◌<◌, ◌≤◌, ◌⊎◌, inl, inr, ⊎_elim, Bool, true, false, true≢false, Some, List, [], ◌∷◌, ◌++◌, length, take, get_or, refl, sym, ap, ◌∙◌, arith, fold}
+use Rattle.std.proofs.Common.{ℕ, zero, suc, ◌≡◌, ◌≢◌, ◌+◌, ◌<◌, ◌≤◌, ◌⊎◌, inl, inr, ⊎_elim, Bool, true, false, true≢false, Some, List, [], ◌∷◌, ◌++◌, length, take, get_or, refl, sym, ap, ◌∙◌, arith, fold, zero-add}
 use Rattle.std.specs.Prelude.{slice_get, slice_set}
 use Rattle.std.specs.List.{list_any}
 use Rattle.std.proofs.lemmas.List.Folds.{list_any_at}
@@ -20,6 +20,16 @@ module _ {X : Type 0} where
   in_longer [] x z (suc i) e = cc
   in_longer (y ∷ xs) x z zero e = inl e
   in_longer (y ∷ xs) x z (suc i) e = ⊎_elim (λ (l : slice_get xs i ≡ Some z). inl l) (λ (r : (i ≡ length xs) × (z ≡ x)). inr (ap (λ k. suc k) r.0, r.1)) (in_longer xs x z i e)
+
+  -- the items of the front list, and of the one behind it
+  pub in_front : (xs ys : List X) (i : ℕ) (x : X) → slice_get xs i ≡ Some x → slice_get (xs ++ ys) i ≡ Some x
+  in_front [] ys i x at = cc
+  in_front (y ∷ xs) ys zero x at = at
+  in_front (y ∷ xs) ys (suc i) x at = in_front xs ys i x at
+
+  pub get_behind : (xs ys : List X) (k : ℕ) → slice_get (xs ++ ys) (length xs + k) ≡ slice_get ys k
+  get_behind [] ys k = ap (slice_get ys) (zero-add k)
+  get_behind (x ∷ xs) ys k = let next : length (x ∷ xs) + k ≡ suc (length xs + k) = omega arith in ap (slice_get (x ∷ xs ++ ys)) next ∙ get_behind xs ys k
 
   -- an item of the front is one of the list
   pub slice_get-take : (xs : List X) (n j : ℕ) (x : X) → slice_get (take n xs) j ≡ Some x → slice_get xs j ≡ Some x

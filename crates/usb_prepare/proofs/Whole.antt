@@ -37,6 +37,7 @@ use Rattle.usb_prepare.proofs.Lists.{in_longer, take_all, set_here, set_elsewher
 use Rattle.usb_prepare.proofs.Numbering.{few_ends, first_within}
 use Rattle.usb_prepare.proofs.Taking.{attached_long}
 use Rattle.usb_prepare.proofs.Boarded.{boarded_start, all_boarded}
+use Rattle.usb_prepare.proofs.Bare.{AreBare, enumeration_bare, device_bare, bare_elsewhere, bare_halts}
 
 some_same : {X : Type 0} {x y : X} → Some x ≡ Some y → x ≡ y
 some_same e = cc
@@ -118,6 +119,19 @@ IsUnasked d x calls = is_raw x.script.kind ≡ true → calls ≡ []
 own_unasked : (d : ℕ) (x : SceneDevice) (w : Probes) → IsUnasked d x (own_probing d x w).calls
 unfolding attached_as
 own_unasked d x w raw = (λ i. (probed_device d x.script (cond (raw i) None (attached_in (address_of d) (enumerated x.script (address_of d)))) (probing_from w (cond (raw i) [] (requests_heard x.script (address_of d) 6)))).calls)
+
+-- and any device is asked at 00 alone, and no endpoint of it halted
+abbrev IsBare : ℕ → SceneDevice → List Call → Type 0
+IsBare d x calls = AreBare calls
+
+own_bare : (d : ℕ) (x : SceneDevice) (w : Probes) → IsBare d x (own_probing d x w).calls
+own_bare d x w = device_bare d x.script (attached_as d x) (probing_from w (enumeration_of d x)) (enumeration_bare d x)
+
+front_bare : (s : Scene) (d : ℕ) (x : SceneDevice) (calls : List Call) → slice_get s.devices d ≡ Some x → slice_get (front_probed s (length s.devices)).heard d ≡ Some calls → AreBare calls
+front_bare s = kept_each s (λ w. w.heard) (λ p. p.calls) (λ w p. refl) refl IsBare own_bare (length s.devices) (omega arith)
+
+pub heard_bare : (s : Scene) (d : ℕ) (x : SceneDevice) (calls : List Call) → slice_get s.devices d ≡ Some x → slice_get (probes_of s).heard d ≡ Some calls → AreBare calls
+heard_bare s d x calls at heard = front_bare s d x calls at (ap (λ w. slice_get w.heard d) (front_all s) ∙ heard)
 
 -- each interface is probed once
 one_probe : (script : DeviceScript) (d : ℕ) (p : Probing) (alt : Alt) → length (with_probe script d p alt).probes ≡ length p.probes + 1
@@ -262,10 +276,13 @@ module _ (s : Scene) (good : IsWellFormed s) where
           let near = slice_get_within s.devices d device at in
           let long = heard_long s device (length s.devices) (omega arith) in
           let heard = is_there (front_probed s (length s.devices)).heard d (omega arith) in
+          let bare = front_bare s d device heard.0 at heard.1 in
           record {
             calls = heard.0;
             stands = are.asked d device heard.0 one at heard.1 there;
             unasked = kept_each s (λ w. w.heard) (λ p. p.calls) (λ w p. refl) refl IsUnasked own_unasked (length s.devices) (omega arith) d device heard.0 at heard.1;
+            at_00 = bare_elsewhere heard.0 bare;
+            unhalted = bare_halts heard.0 bare;
           });
     }
 

@@ -1,7 +1,8 @@
 -- What the run of a scene begins with.
-use Rattle.std.specs.Prelude.{ℕ, ◌≡◌, true, List, [], length, slice_get, Some}
+use Rattle.std.specs.Prelude.{ℕ, ◌≡◌, ◌≢◌, true, List, [], length, slice_get, Some}
 use Rattle.usb_device.specs.declared.scripted.Scripted.{Scripted}
-use Rattle.usb_device.specs.Device.{Call, Stands}
+use Rattle.usb_device.specs.Device.{Call, questions_at, Stands}
+use Rattle.usb_device.specs.Laws.{NoneHalts}
 use Rattle.usb_scene.specs.declared.scene.Scene.{Scene}
 use Rattle.usb_scene.specs.declared.scene.SceneDevice.{SceneDevice}
 use Rattle.usb_scene.specs.WellFormed.{is_raw}
@@ -10,11 +11,13 @@ use Rattle.usb_prepare.specs.Layout.{layout_of}
 use Rattle.usb_prepare.specs.Bindings.{HaveHeard}
 use Rattle.usb_prepare.specs.Prepared.{bindings_of, probes_of, found_of}
 
--- a device before the run: a raw one heard no call
+-- a device before the run: a raw one heard no call; an enumeration and a probe ask 00 alone, and set no endpoint's halt
 pub record IsReady (device : SceneDevice) (scripted : Scripted) : Type 0 where
   pub calls : List Call
   pub stands : Stands scripted device.script calls
   pub unasked : is_raw device.script.kind ≡ true → calls ≡ []
+  pub at_00 : (address : ℕ) → address ≢ 0 → questions_at address calls ≡ []
+  pub unhalted : NoneHalts calls
 
 -- each of these devices is there
 pub record AreReady (devices : List SceneDevice) (all : List Scripted) : Type 0 where
