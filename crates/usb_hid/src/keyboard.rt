@@ -6,7 +6,7 @@ use crate::event::Event;
 use std::alloc::{AllocError, Global};
 use std::marker::Model;
 use usb_machine::Transfer;
-use usb_types::{Action, Code, Errno, Memory, Role};
+use usb_types::{Action, Code, Errno, List, Memory, Role};
 
 /// The core of a boot keyboard's driver. It keeps what stands of the reports, and all events so far.
 #[derive(Drop)]
@@ -48,6 +48,13 @@ impl Keyboard {
         ensures { result.now ≡ self.now.events }
     {
         &self.events
+    }
+
+    /// What happened so far, with its memory.
+    pub fn into_events(self) -> List<Event>
+        ensures { result ≡ self.events }
+    {
+        List::of(self.events)
     }
 
     /// Takes note of an URB that came back, its read or a control transfer, and says what becomes of its transfer.

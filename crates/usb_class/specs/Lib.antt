@@ -1,0 +1,6 @@
+pub mod Done
+pub mod Roles
+pub mod Handler
+pub mod Told
+pub mod Core
+pub mod Calls

@@ -1,0 +1,12 @@
+//! The cores of the class drivers behind one type: what a binding's URB brought back finds the core of its driver here.
+#![tactic(auto)]
+
+mod calls;
+mod class_core;
+mod handler;
+mod roles;
+
+pub use calls::{setup_for, urb_for};
+pub use class_core::{Core, Told};
+pub use handler::{goes_again, with_window};
+pub use roles::{has_number, read_size, role_of};
