@@ -1,5 +1,5 @@
 -- What holds where there is no cause against a statement.
-use Rattle.std.proofs.Common.{◌≡◌, ℕ, ◌<◌, ◌≤◌, Bool, true, false, cond, List, length, Option, Some, None, refl, sym, subst, arith}
+use Rattle.std.proofs.Common.{◌≡◌, ℕ, ◌<◌, ◌≤◌, Bool, true, false, cond, List, length, Option, Some, None, refl, sym, ap, subst, arith}
 use Rattle.std.specs.Prelude.{not, position, unwrap_or, is_some, nat_lt, slice_get}
 use Rattle.std.specs.Option.{option_map}
 use Rattle.std.specs.List.{position_or_len}
@@ -16,7 +16,7 @@ use Rattle.usb_statement.specs.declared.urb_name.UrbName.TheVariants.{Scripted, 
 use Rattle.usb_scene.specs.declared.cause.Cause.{Cause}
 use Rattle.usb_scene.specs.declared.cause.Cause.TheVariants as cause
 use Rattle.usb_scene.specs.WellFormed.{is_raw, HasDrivers, IsBuilt}
-use Rattle.usb_scene.specs.Rules.{SoFar, is_of, is_classed, numbered_device, device_number, urb_number, named_urb, named_target, urb_target, is_low, fits_device, names_stand, is_new, is_within, holds_reject, may_call, statement_cause}
+use Rattle.usb_scene.specs.Rules.{SoFar, is_of, is_classed, numbered_device, device_number, urb_number, named_urb, driven_number, named_target, urb_target, interface_target, is_low, fits_device, names_stand, is_new, is_within, holds_reject, may_call, statement_cause}
 
 pub record IsAllowed (s : SoFar) (said : Statement) : Type 0 where
   pub fits : fits_device s.scene said ≡ true
@@ -87,3 +87,21 @@ called_built s code (Scripted name) some most h low =
     subst (IsBuilt s code) (sym p.2) (omega arith, most, p.1)
 called_built s code (Driver device number r) some most h low =
     driven s code number r (device_number s device) some most (leb-true number 255 low) h
+
+-- a device where drivers have URBs
+driven_device : (s : Scene) (o : Option ℕ) → is_some (cond (is_of is_classed (numbered_device s o)) o None) ≡ true
+    → (d : ℕ) × (cond (is_of is_classed (numbered_device s o)) o None ≡ Some d) × HasDrivers (slice_get s.devices d)
+driven_device s None h = cc
+driven_device s (Some d) h = go (is_of is_classed (slice_get s.devices d)) refl h
+  where
+    go : (t : Bool) → is_of is_classed (slice_get s.devices d) ≡ t → is_some (cond t (Some d) None) ≡ true
+        → (e : ℕ) × (cond t (Some d) None ≡ Some e) × HasDrivers (slice_get s.devices e)
+    go true e h = (d, refl, drivers_of (slice_get s.devices d) e)
+    go false e h = cc
+
+-- a call on an interface
+pub interface_built : (s : Scene) (code : ℕ) (device : List ℕ) (interface : ℕ) → code ≡ 23 → interface ≤ 255 → is_some (driven_number s device) ≡ true
+    → IsBuilt s code (interface_target s device interface)
+interface_built s code device interface same low h =
+    let d = driven_device s (device_number s device) h in
+    subst (IsBuilt s code) (sym (ap (λ o. unwrap_or (option_map (λ n. target.Interface n interface) o) target.Nothing) d.1)) (same, low, d.2)

@@ -3,12 +3,15 @@ use Rattle.std.proofs.Common.{◌≡◌, refl}
 use Rattle.std.specs.Prelude.{codes, unwrap_or}
 use Rattle.usb_types.specs.Table.{code_at}
 use Rattle.usb_types.specs.Rows.{call_table}
-use Rattle.usb_statement.specs.Printed.{urb_call_text, bare_call_text}
+use Rattle.usb_statement.specs.Printed.{urb_call_text, bare_call_text, interface_word_text}
+use Rattle.usb_statement.specs.InterfaceCalls.{interface_word}
 use Rattle.usb_statement.specs.declared.keyword.UrbCall.{UrbCall}
 use Rattle.usb_statement.specs.declared.keyword.UrbCall.TheVariants as on
 use Rattle.usb_statement.specs.declared.keyword.BareCall.{BareCall}
 use Rattle.usb_statement.specs.declared.keyword.BareCall.TheVariants as bare
-use Rattle.usb_scene.specs.Growth.{urb_call_code, bare_call_code}
+use Rattle.usb_statement.specs.declared.interface_call.InterfaceCall.{InterfaceCall}
+use Rattle.usb_statement.specs.declared.interface_call.InterfaceCall.TheVariants.{Led}
+use Rattle.usb_scene.specs.Growth.{urb_call_code, bare_call_code, interface_call_code}
 
 pub submit_number : unwrap_or (code_at call_table (codes "submit")) 0 ≡ 1
 unfolding call_table
@@ -28,3 +31,7 @@ unfolding call_table
 bare_call_number bare.Serve = refl
 bare_call_number bare.Down = refl
 bare_call_number bare.Up = refl
+
+pub interface_call_number : (call : InterfaceCall) → unwrap_or (code_at call_table (interface_word_text (interface_word call))) 0 ≡ interface_call_code call
+unfolding call_table
+interface_call_number (Led lights) = refl

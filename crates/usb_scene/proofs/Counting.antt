@@ -50,6 +50,7 @@ parts_agree d e i j t s h =
 agree : (u v : Target) → eq-value.it u v ≡ is_on u v
 agree (target.Urb u) (target.Urb v) = turned u v
 agree (target.Role d i q) (target.Role e j r) = parts_agree d e i j (role_test.eq-value.it q r) (eqb (role_number r) (role_number q)) (roles_agree q r)
+agree (target.Interface d i) (target.Interface e j) = ap (λ x. x && eqb i j) (turned d e) ∙ ap (λ x. eqb e d && x) (turned i j)
 agree (target.Anchor a) (target.Anchor b) = turned a b
 agree (target.Device d) (target.Device e) = turned d e
 agree target.Nothing target.Nothing = refl

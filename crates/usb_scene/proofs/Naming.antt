@@ -87,3 +87,4 @@ found_behind s line (say.Thread name) find allowed h other = h other
 found_behind s line (say.Submit urb setup bytes) find allowed h other = h other
 found_behind s line (say.OnUrb call urb) find allowed h other = h other
 found_behind s line (say.Alone call) find allowed h other = h other
+found_behind s line (say.OnInterface call device interface) find allowed h other = h other

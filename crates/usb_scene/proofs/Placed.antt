@@ -10,6 +10,11 @@ use Rattle.usb_statement.specs.declared.statement.Statement.{Statement}
 use Rattle.usb_statement.specs.declared.statement.Statement.TheVariants as say
 use Rattle.usb_statement.specs.declared.keyword.Keyword.{Keyword}
 use Rattle.usb_statement.specs.declared.keyword.Keyword.TheVariants as word
+use Rattle.usb_statement.specs.declared.keyword.InterfaceWord.{InterfaceWord}
+use Rattle.usb_statement.specs.declared.keyword.InterfaceWord.TheVariants as called
+use Rattle.usb_statement.specs.declared.interface_call.InterfaceCall.{InterfaceCall}
+use Rattle.usb_statement.specs.declared.interface_call.InterfaceCall.TheVariants.{Led}
+use Rattle.usb_statement.specs.InterfaceCalls.{interface_word, interface_call_of}
 use Rattle.usb_statement.specs.Items.{items_of, are_items_of}
 use Rattle.usb_statement.specs.Options.{options_of}
 use Rattle.usb_statement.specs.Setups.{setup_first, behind_setup}
@@ -24,6 +29,12 @@ map_some f (Some x) y h = (x, refl, cc)
 -- what is said by one statement is said by an equal one
 said_as : (k : Keyword) (x said : Statement) → x ≡ said → keyword_said x ≡ k → keyword_said said ≡ k
 said_as k x said e h = ap keyword_said (sym e) ∙ h
+
+-- a call on an interface is of its word
+word_said : (which : InterfaceWord) (texts : List (List ℕ)) (call : InterfaceCall) → interface_call_of which texts ≡ Some call → interface_word call ≡ which
+word_said called.Led (text ∷ []) call h =
+    let p = map_some (λ b. Led b) (byte_of text) call h in ap interface_word (sym p.2)
+word_said _ _ call h = cc
 
 pub first_said : (k : Keyword) (texts : List (List ℕ)) (said : Statement) → statement_of k texts ≡ Some said → keyword_said said ≡ k
 first_said word.Device (name ∷ kind ∷ []) said h =
@@ -55,6 +66,11 @@ first_said word.Submit (urb ∷ texts) said h =
 first_said (word.OnUrb call) (urb ∷ []) said h =
     let p = map_some (λ u. say.OnUrb call u) (urb_name_of urb) said h in said_as (word.OnUrb call) (say.OnUrb call p.0) said p.2 refl
 first_said (word.Alone call) [] said h = said_as (word.Alone call) (say.Alone call) said (cc) refl
+first_said (word.OnInterface which) (device ∷ interface ∷ texts) said h =
+    option_and_then_some _ (name_of device) said h (λ d e g.
+    option_and_then_some _ (number_of interface) said g (λ i f k.
+    option_and_then_some _ (interface_call_of which texts) said k (λ c l m.
+    said_as (word.OnInterface which) (say.OnInterface c d i) said (cc) (ap (λ w. word.OnInterface w) (word_said which texts c l)))))
 first_said _ _ said h = cc
 
 -- a line's statement may stand where its first word may

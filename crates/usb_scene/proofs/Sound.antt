@@ -23,12 +23,12 @@ use Rattle.usb_statement.specs.declared.statement.Statement.TheVariants as say
 use Rattle.usb_statement.specs.Sayable.{IsEndAddress, is_end_kind, IsAnswerLine, IsSayable}
 use Rattle.usb_statement.specs.Statements.{is_empty, keyword_said}
 use Rattle.usb_scene.specs.WellFormed.{is_raw, is_printer, is_packet, IsDevice, HasEnd, IsUrb, IsBuilt, IsThread}
-use Rattle.usb_scene.specs.Rules.{SoFar, in_devices, last_device, is_of, takes, may_stand, fits_device, urb_target, device_number, numbered_device, has_end, has_address, is_home, is_low, most_of, has_call_left, given_len, len_in, again_in, raises, held_now}
-use Rattle.usb_scene.specs.Growth.{on_last, bare_device, end_said, with_end, with_bytes, with_port, with_answers, urb_said, urb_call_code, last_changed, scene_with}
+use Rattle.usb_scene.specs.Rules.{SoFar, in_devices, last_device, is_of, takes, may_stand, fits_device, urb_target, interface_target, device_number, numbered_device, has_end, has_address, is_home, is_low, most_of, has_call_left, given_len, len_in, again_in, raises, held_now}
+use Rattle.usb_scene.specs.Growth.{on_last, bare_device, end_said, with_end, with_bytes, with_port, with_answers, urb_said, urb_call_code, interface_call_code, last_changed, scene_with}
 use Rattle.usb_scene.specs.Counts.{AreFair}
-use Rattle.usb_scene.proofs.Allowed.{IsAllowed, urb_found, called_built}
+use Rattle.usb_scene.proofs.Allowed.{IsAllowed, urb_found, called_built, interface_built}
 use Rattle.usb_scene.proofs.Devices.{end_range, end_kind, good_items, fitting, new_device, device_with_end, device_with_bytes, device_with_port, device_with_answers}
-use Rattle.usb_scene.proofs.SoundCalls.{IsSound, urb_kept, threads_kept, new_thread, submit_sound, urb_codes, urb_sound, alone_sound}
+use Rattle.usb_scene.proofs.SoundCalls.{IsSound, urb_kept, threads_kept, new_thread, submit_sound, urb_codes, urb_sound, alone_sound, interface_codes, interface_sound}
 use Rattle.usb_scene.proofs.Scenes.{length-on_last, not_empty}
 use Rattle.usb_scene.proofs.Pushed.{All-empty, Each, each_push, each_last, once_push, not_found, same_bytes}
 
@@ -188,3 +188,7 @@ sound_with s line (say.OnUrb call urb) h place sayable allowed low =
     urb_sound s.scene line (urb_target s.scene urb) call (not_empty s.scene.threads place) there low limits.1 allowed.held h
 sound_with s line (say.Alone call) h place sayable allowed low =
     alone_sound s.scene line call (not_empty s.scene.threads place) low allowed.hub h
+sound_with s line (say.OnInterface call device interface) h place sayable allowed low =
+    let limits = and_parts (has_call_left s.scene) (nat_le interface 255) allowed.within in
+    let there = interface_built s.scene (interface_call_code call) device interface (interface_codes call) (leb-true interface 255 limits.1) allowed.named in
+    interface_sound s.scene line (interface_target s.scene device interface) call (not_empty s.scene.threads place) there low h

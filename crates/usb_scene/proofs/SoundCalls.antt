@@ -17,13 +17,15 @@ use Rattle.usb_statement.specs.declared.keyword.UrbCall.{UrbCall}
 use Rattle.usb_statement.specs.declared.keyword.UrbCall.TheVariants as on
 use Rattle.usb_statement.specs.declared.keyword.BareCall.{BareCall}
 use Rattle.usb_statement.specs.declared.keyword.BareCall.TheVariants as bare
+use Rattle.usb_statement.specs.declared.interface_call.InterfaceCall.{InterfaceCall}
+use Rattle.usb_statement.specs.declared.interface_call.InterfaceCall.TheVariants.{Led}
 use Rattle.usb_statement.specs.declared.statement.Statement.TheVariants as say
 use Rattle.usb_statement.specs.Statements.{is_empty}
-use Rattle.usb_scene.specs.WellFormed.{HasEnd, HasDrivers, IsUrb, IsBuilt, IsBuffer, IsCall, AreHeld, held_on, is_hub_call, IsThread, IsWellFormed}
+use Rattle.usb_scene.specs.WellFormed.{HasEnd, HasDrivers, IsUrb, IsBuilt, IsBuffer, CarriesBytes, IsCall, AreHeld, held_on, is_hub_call, IsThread, IsWellFormed}
 use Rattle.usb_scene.specs.Rules.{given_len, raises, withdraws, calls_of, last_thread, is_hub, may_call}
-use Rattle.usb_scene.specs.Growth.{on_last, plain_call, urb_call_code, bare_call_code, with_call, scene_calls}
+use Rattle.usb_scene.specs.Growth.{on_last, plain_call, urb_call_code, bare_call_code, interface_call_code, carried_bytes, with_call, scene_calls}
 use Rattle.usb_scene.specs.Counts.{AreFair}
-use Rattle.usb_scene.proofs.HeldCounts.{urb_call, quiet_submit, quiet_alone, fair_quiet, fair_said}
+use Rattle.usb_scene.proofs.HeldCounts.{urb_call, interface_call, quiet_submit, quiet_alone, quiet_interface, fair_quiet, fair_said}
 use Rattle.usb_scene.proofs.Scripts.{held_calmly, held_said, held_none}
 use Rattle.usb_scene.proofs.Scenes.{length-on_last}
 use Rattle.usb_statement.proofs.SaidWords.{option_map_some}
@@ -51,11 +53,12 @@ built_kept : (s t : Scene) → Keeps s t → (code : ℕ) (at : Target) → IsBu
 built_kept s t more code (target.Urb u) h = (h.0, h.1, omega (arith, h.2, more.urbs))
 built_kept s t more code target.Nothing h = h
 built_kept s t more code (target.Role d interface role) h = (h.0, h.1, h.2, subst (λ (ds : List SceneDevice). HasDrivers (slice_get ds d)) more.devices h.3)
+built_kept s t more code (target.Interface d interface) h = (h.0, h.1, subst (λ (ds : List SceneDevice). HasDrivers (slice_get ds d)) more.devices h.2)
 built_kept s t more code (target.Anchor n) h = h
 built_kept s t more code (target.Device n) h = h
 
 call_kept : (s t : Scene) → Keeps s t → (c : Call) → IsCall s c → IsCall t c
-call_kept s t more c h = record { line = h.line; built = built_kept s t more c.code c.target h.built; setup = h.setup; bytes = h.bytes }
+call_kept s t more c h = record { line = h.line; built = built_kept s t more c.code c.target h.built; setup = h.setup; bytes = h.bytes; lights = h.lights }
 
 thread_kept : (s t : Scene) → Keeps s t → (thread : SceneThread) → IsThread s thread → IsThread t thread
 thread_kept s t more thread h = record { calls = All-weaker (IsCall s) (IsCall t) (call_kept s t more) thread.calls h.calls; held = h.held; hub = h.hub }
@@ -133,6 +136,9 @@ urb_codes on.Unpoison = (lit≤ tt, lit≤ tt)
 urb_codes on.Block = (lit≤ tt, lit≤ tt)
 urb_codes on.Unblock = (lit≤ tt, lit≤ tt)
 
+no_lights : (call : UrbCall) → urb_call_code call ≡ 23 → CarriesBytes 1 None
+no_lights call e = let few = (urb_codes call).1 in omega arith
+
 not_of_hub : (call : UrbCall) → is_hub_call (urb_call_code call) ≡ false
 not_of_hub on.Unlink = refl
 not_of_hub on.Kill = refl
@@ -145,6 +151,14 @@ bare_built : (s : Scene) (call : BareCall) → IsBuilt s (bare_call_code call) t
 bare_built s bare.Serve = inl refl
 bare_built s bare.Down = inr (inl refl)
 bare_built s bare.Up = inr (inr refl)
+
+bare_codes : (call : BareCall) → bare_call_code call ≤ 22
+bare_codes bare.Serve = lit≤ tt
+bare_codes bare.Down = lit≤ tt
+bare_codes bare.Up = lit≤ tt
+
+bare_lights : (call : BareCall) → bare_call_code call ≡ 23 → CarriesBytes 1 None
+bare_lights call e = let few = bare_codes call in omega arith
 
 -- a call of the hub stands in the hub's thread
 hub_free : (s : Scene) (call : BareCall) (thread : SceneThread) → may_call s (say.Alone call) ≡ true → last_thread s ≡ Some thread
@@ -162,7 +176,7 @@ pub submit_sound : (s : Scene) (line : ℕ) (v : Target) (setup bytes : Option (
 submit_sound s line v setup bytes some there few low h =
     let c = plain_call line 1 v setup bytes in
     let quiet = quiet_submit line v setup bytes in
-    call_sound s c some (record { line = low; built = there; setup = λ other. absurd (other refl); bytes = given_buffer bytes few })
+    call_sound s c some (record { line = low; built = there; setup = λ other. absurd (other refl); bytes = given_buffer bytes few; lights = λ other. cc })
     (λ x e p. record { held = held_calmly x.calls c quiet p.0.held; fair = fair_quiet x.calls c quiet p.1; hub = λ other. refl }) h
 
 pub urb_sound : (s : Scene) (line : ℕ) (v : Target) (call : UrbCall) → is_empty s.threads ≡ false → IsBuilt s (urb_call_code call) v → line < 2 ^ 31
@@ -171,7 +185,7 @@ pub urb_sound : (s : Scene) (line : ℕ) (v : Target) (call : UrbCall) → is_em
     → IsSound s → IsSound (scene_calls s (urb_call line v call))
 urb_sound s line v call some there low free held h =
     let c = urb_call line v call in
-    call_sound s c some (record { line = low; built = there; setup = λ other. refl; bytes = tt })
+    call_sound s c some (record { line = low; built = there; setup = λ other. refl; bytes = tt; lights = no_lights call })
     (λ x e p.
     let same : calls_of (last_thread s) ≡ x.calls = ap calls_of e in
     let free_x = subst (λ (cs : List Call). cond (raises call) (nat_lt (held_on v cs) 100) true ≡ true) same free in
@@ -183,5 +197,26 @@ pub alone_sound : (s : Scene) (line : ℕ) (call : BareCall) → is_empty s.thre
 alone_sound s line call some low hub h =
     let c = plain_call line (bare_call_code call) target.Nothing None None in
     let quiet = quiet_alone line call in
-    call_sound s c some (record { line = low; built = bare_built s call; setup = λ other. refl; bytes = tt })
+    call_sound s c some (record { line = low; built = bare_built s call; setup = λ other. refl; bytes = tt; lights = bare_lights call })
     (λ x e p. record { held = held_calmly x.calls c quiet p.0.held; fair = fair_quiet x.calls c quiet p.1; hub = hub_free s call x hub e }) h
+
+-- calls on interfaces
+pub interface_codes : (call : InterfaceCall) → interface_call_code call ≡ 23
+interface_codes (Led lights) = refl
+
+carried_buffer : (call : InterfaceCall) → IsBuffer (carried_bytes call)
+carried_buffer (Led lights) = lit≤ tt
+
+carried_lights : (call : InterfaceCall) → interface_call_code call ≡ 23 → CarriesBytes 1 (carried_bytes call)
+carried_lights (Led lights) e = refl
+
+no_hub_interface : (call : InterfaceCall) → is_hub_call (interface_call_code call) ≡ false
+no_hub_interface (Led lights) = refl
+
+pub interface_sound : (s : Scene) (line : ℕ) (v : Target) (call : InterfaceCall) → is_empty s.threads ≡ false → IsBuilt s (interface_call_code call) v → line < 2 ^ 31
+    → IsSound s → IsSound (scene_calls s (interface_call line v call))
+interface_sound s line v call some there low h =
+    let c = interface_call line v call in
+    let quiet = quiet_interface line v call in
+    call_sound s c some (record { line = low; built = there; setup = λ other. refl; bytes = carried_buffer call; lights = carried_lights call })
+    (λ x e p. record { held = held_calmly x.calls c quiet p.0.held; fair = fair_quiet x.calls c quiet p.1; hub = λ other. no_hub_interface call }) h

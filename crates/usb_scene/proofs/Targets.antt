@@ -30,6 +30,9 @@ same_urb (target.Role d i q) (target.Role e j r) h =
     let p = and_parts (eqb e d && eqb j i) (eqb (role_number r) (role_number q)) h in
     let n = and_parts (eqb e d) (eqb j i) p.0 in
     ap (λ x. target.Role x i q) (sym (eqb-true e d n.0)) ∙ ap (λ x. target.Role e x q) (sym (eqb-true j i n.1)) ∙ ap (λ x. target.Role e j x) (sym (same_role r q p.1))
+same_urb (target.Interface d i) (target.Interface e j) h =
+    let p = and_parts (eqb e d) (eqb j i) h in
+    ap (λ x. target.Interface x i) (sym (eqb-true e d p.0)) ∙ ap (λ x. target.Interface e x) (sym (eqb-true j i p.1))
 same_urb (target.Anchor a) (target.Anchor b) h = ap (λ n. target.Anchor n) (sym (eqb-true b a h))
 same_urb (target.Device d) (target.Device e) h = ap (λ n. target.Device n) (sym (eqb-true e d h))
 same_urb target.Nothing target.Nothing h = refl

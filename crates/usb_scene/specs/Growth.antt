@@ -21,7 +21,9 @@ use Rattle.usb_statement.specs.declared.keyword.UrbCall.{UrbCall}
 use Rattle.usb_statement.specs.declared.keyword.UrbCall.TheVariants as on
 use Rattle.usb_statement.specs.declared.keyword.BareCall.{BareCall}
 use Rattle.usb_statement.specs.declared.keyword.BareCall.TheVariants as bare
-use Rattle.usb_scene.specs.Rules.{SoFar, device_number, urb_target, is_short, len_in, again_in, replies_of}
+use Rattle.usb_statement.specs.declared.interface_call.InterfaceCall.{InterfaceCall}
+use Rattle.usb_statement.specs.declared.interface_call.InterfaceCall.TheVariants.{Led}
+use Rattle.usb_scene.specs.Rules.{SoFar, device_number, urb_target, interface_target, is_short, len_in, again_in, replies_of}
 
 -- a scene of version 1 with nothing in it
 abbrev pub empty_scene : Scene
@@ -98,6 +100,13 @@ bare_call_code bare.Serve = 8
 bare_call_code bare.Down = 21
 bare_call_code bare.Up = 22
 
+abbrev pub interface_call_code : InterfaceCall → ℕ
+interface_call_code (Led lights) = 23
+
+-- the bytes that a call on an interface carries, if it has any
+abbrev pub carried_bytes : InterfaceCall → Option (List ℕ)
+carried_bytes (Led lights) = Some (lights ∷ [])
+
 abbrev pub with_call : Call → SceneThread → SceneThread
 with_call call thread = record thread { calls = thread.calls ++ call ∷ [] }
 
@@ -126,6 +135,8 @@ abbrev pub scene_with : Scene → ℕ → Statement → Scene
 scene_with scene line (say.Submit urb setup bytes) = scene_calls scene (plain_call line 1 (urb_target scene urb) setup bytes)
 scene_with scene line (say.OnUrb call urb) = scene_calls scene (plain_call line (urb_call_code call) (urb_target scene urb) None None)
 scene_with scene line (say.Alone call) = scene_calls scene (plain_call line (bare_call_code call) target.Nothing None None)
+scene_with scene line (say.OnInterface call device interface) =
+    scene_calls scene (plain_call line (interface_call_code call) (interface_target scene device interface) None (carried_bytes call))
 scene_with scene line statement = scene_declares scene statement
 
 -- whether the device whose lines are being read has its `port` line, behind a line
@@ -152,4 +163,5 @@ abbrev pub calls_said : Statement → ℕ
 calls_said (say.Submit urb setup bytes) = 1
 calls_said (say.OnUrb call urb) = 1
 calls_said (say.Alone call) = 1
+calls_said (say.OnInterface call device interface) = 1
 calls_said _ = 0

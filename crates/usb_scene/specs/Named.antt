@@ -8,7 +8,7 @@ use Rattle.usb_scene.specs.declared.scene.Target.{Target}
 use Rattle.usb_scene.specs.declared.scene.Target.TheVariants as target
 use Rattle.usb_statement.specs.declared.statement.Statement.{Statement}
 use Rattle.usb_statement.specs.declared.statement.Statement.TheVariants as say
-use Rattle.usb_scene.specs.Rules.{urb_number, urb_target}
+use Rattle.usb_scene.specs.Rules.{urb_number, urb_target, interface_target}
 
 -- the number of a name in a map
 abbrev pub number_in : {A S : Type 0} → HashMap (Vec ℕ A) ℕ S → List ℕ → Option ℕ
@@ -23,8 +23,9 @@ abbrev pub found_with : Scene → Statement → (List ℕ → Option ℕ) → Li
 found_with scene (say.Urb name device address options) find other = if bytes_eq name other then Some (length scene.urbs) else find other
 found_with scene _ find other = find other
 
--- the URB that a line calls
+-- the URB or the interface that a line calls
 abbrev pub called_target : Scene → Statement → Target
 called_target scene (say.Submit urb setup bytes) = urb_target scene urb
 called_target scene (say.OnUrb call urb) = urb_target scene urb
+called_target scene (say.OnInterface call device interface) = interface_target scene device interface
 called_target scene _ = target.Nothing

@@ -134,12 +134,17 @@ named_target scene (Driver device number role) = option_map (λ d. target.Role d
 abbrev pub urb_target : Scene → UrbName → Target
 urb_target scene urb = unwrap_or (named_target scene urb) target.Nothing
 
+-- the interface that a line calls, where drivers have its device
+abbrev pub interface_target : Scene → List ℕ → ℕ → Target
+interface_target scene device interface = unwrap_or (option_map (λ d. target.Interface d interface) (driven_number scene device)) target.Nothing
+
 -- each name and address that the line takes as declared is so, and of the kind that the line asks
 abbrev pub names_stand : Scene → Statement → Bool
 names_stand scene (say.Answer address items) = may_answer (last_device scene) address
 names_stand scene (say.Urb name device address options) = is_home (numbered_device scene (device_number scene device)) address
 names_stand scene (say.Submit urb setup bytes) = is_some (named_urb scene urb)
 names_stand scene (say.OnUrb call urb) = is_some (named_target scene urb)
+names_stand scene (say.OnInterface call device interface) = is_some (driven_number scene device)
 names_stand scene _ = true
 
 abbrev pub is_len : UrbOption → Bool
@@ -263,6 +268,7 @@ is_within scene (say.Thread name) = nat_lt (length scene.threads) 16
 is_within scene (say.Submit urb setup bytes) = has_call_left scene && nat_le (given_len bytes) 16384
 is_within scene (say.OnUrb call urb) = has_call_left scene && is_low urb && (if raises call then nat_lt (held_now scene urb) 100 else true)
 is_within scene (say.Alone call) = has_call_left scene
+is_within scene (say.OnInterface call device interface) = has_call_left scene && nat_le interface 255
 
 -- a reject that is withdrawn is one that this script holds
 abbrev pub holds_reject : Scene → Statement → Bool

@@ -109,10 +109,11 @@ pub record IsUrb (s : Scene) (urb : SceneUrb) : Type 0 where
   pub len : urb.len ≤ 16384
   pub again : urb.again ≤ 63
 
--- the calls that are built: 1 to 7 on an URB, 2 to 7 on one of a driver, and 8, 21 and 22 on nothing
+-- the calls that are built: 1 to 7 on an URB, 2 to 7 on one of a driver, 23 on an interface, and 8, 21 and 22 on nothing
 abbrev pub IsBuilt : Scene → ℕ → Target → Type 0
 IsBuilt s code (target.Urb u) = (1 ≤ code) × (code ≤ 7) × (u < length s.urbs)
 IsBuilt s code (target.Role d interface r) = (2 ≤ code) × (code ≤ 7) × (interface ≤ 255) × HasDrivers (slice_get s.devices d)
+IsBuilt s code (target.Interface d interface) = (code ≡ 23) × (interface ≤ 255) × HasDrivers (slice_get s.devices d)
 IsBuilt s code target.Nothing = (code ≡ 8) ⊎ (code ≡ 21) ⊎ (code ≡ 22)
 IsBuilt s code _ = ⊥
 
@@ -120,12 +121,19 @@ abbrev pub IsBuffer : Option (List ℕ) → Type 0
 IsBuffer None = Unit {0}
 IsBuffer (Some bytes) = length bytes ≤ 16384
 
+-- bytes that are there, and so many
+abbrev pub CarriesBytes : ℕ → Option (List ℕ) → Type 0
+CarriesBytes n None = ⊥
+CarriesBytes n (Some bytes) = length bytes ≡ n
+
 pub record IsCall (s : Scene) (c : Call) : Type 0 where
   pub line : c.line < 2 ^ 31
   pub built : IsBuilt s c.code c.target
   -- only a submit has a setup packet
   pub setup : c.code ≢ 1 → c.setup ≡ None
   pub bytes : IsBuffer c.bytes
+  -- the lights are one byte
+  pub lights : c.code ≡ 23 → CarriesBytes 1 c.bytes
 
 -- the roles of a driver's URBs, numbered
 abbrev pub role_number : Role → ℕ
@@ -136,10 +144,11 @@ role_number role.Read1 = 3
 role_number role.Write = 4
 role_number role.Ctl = 5
 
--- whether both are one URB, one anchor or one device
+-- whether both are one URB, one interface, one anchor or one device
 abbrev pub is_on : Target → Target → Bool
 is_on (target.Urb u) (target.Urb v) = v == u
 is_on (target.Role d i r) (target.Role e j q) = e == d && j == i && role_number q == role_number r
+is_on (target.Interface d i) (target.Interface e j) = e == d && j == i
 is_on (target.Anchor a) (target.Anchor b) = b == a
 is_on (target.Device d) (target.Device e) = e == d
 is_on target.Nothing target.Nothing = true

@@ -10,12 +10,12 @@ use crate::growth::add;
 use crate::names::Names;
 use crate::rejects::{Rejects, raises, withdraws};
 use crate::room::{
-    are_low, calls_behind, is_buffer, is_low, most_of, names_behind, rejects_behind,
+    are_low, calls_behind, is_buffer, is_interface, is_low, most_of, names_behind, rejects_behind,
     replies_behind, room_behind,
 };
 use crate::rules::{
-    are_once, device_number, driven_number, fits_device, is_new_thread, last_has_bytes,
-    last_has_end, last_may_answer, may_call, named_is_home,
+    are_once, device_number, driven_number, fits_device, interface_target, is_new_thread,
+    last_has_bytes, last_has_end, last_may_answer, may_call, named_is_home,
 };
 use crate::scene::{Scene, Target};
 use std::alloc::Global;
@@ -168,6 +168,11 @@ impl Draft {
         match statement {
             Statement::Submit { urb, .. } => self.urb_target(urb),
             Statement::OnUrb { urb, .. } => self.urb_target(urb),
+            Statement::OnInterface {
+                device,
+                interface,
+                ..
+            } => interface_target(&self.scene, device.bytes(), *interface),
             _ => Target::Nothing,
         }
     }
@@ -184,6 +189,9 @@ impl Draft {
             } => named_is_home(&self.scene, device.bytes(), *address),
             Statement::Submit { urb, .. } => self.is_declared(urb),
             Statement::OnUrb { urb, .. } => self.may_call_urb(urb),
+            Statement::OnInterface { device, .. } => {
+                driven_number(&self.scene, device.bytes()).is_some()
+            }
             _ => true,
         }
     }
@@ -245,6 +253,9 @@ impl Draft {
                 0 < self.more_calls && is_low(urb) && self.may_raise(*call, urb)
             }
             Statement::Alone { .. } => 0 < self.more_calls,
+            Statement::OnInterface { interface, .. } => {
+                0 < self.more_calls && is_interface(*interface)
+            }
         }
     }
 
@@ -291,7 +302,7 @@ impl Draft {
         requires allowed { statement_cause self statement ≡ None }
         ensures { IfOk result (λ next. next ≡ grown_by self line statement) }
     {
-        let urb = self.called_target(&statement);
+        let target = self.called_target(&statement);
         let Draft {
             mut scene,
             has_port,
@@ -303,9 +314,9 @@ impl Draft {
         let has_port = port_behind(has_port, &statement);
         let more_replies = replies_behind(&statement, more_replies);
         let more_calls = calls_behind(&statement, more_calls);
-        let rejects = rejects_behind(alloc, rejects, &statement, urb)?;
+        let rejects = rejects_behind(alloc, rejects, &statement, target)?;
         let names = names_behind(alloc, &scene, names, &statement)?;
-        add(&mut scene, alloc, line, statement, urb)?;
+        add(&mut scene, alloc, line, statement, target)?;
         Ok(Draft {
             scene,
             has_port,

@@ -1,18 +1,19 @@
 //! What a line adds to the scene.
-ghost use Rattle.std.specs.Prelude.{◌≡◌, ◌≤◌, length, unwrap_or, IsTrue, OnOk};
+ghost use Rattle.std.specs.Prelude.{◌≡◌, ◌≤◌, length, IsTrue, OnOk};
 ghost use Rattle.std.specs.List.{list_any};
 ghost use Rattle.usb_scene.specs.Rules.{is_within, is_short, len_in, again_in};
-ghost use Rattle.usb_types.specs.Table.{code_at};
-ghost use Rattle.usb_types.specs.Rows.{call_table};
 ghost use Rattle.usb_scene.specs.Named.{called_target};
-ghost use Rattle.usb_scene.specs.Growth.{bare_device, end_said, on_last, with_end, with_bytes, with_port, joined, with_answers, urb_said, plain_call, urb_call_code, bare_call_code, with_call, last_changed, scene_declares, scene_with};
+ghost use Rattle.usb_scene.specs.Growth.{bare_device, end_said, on_last, with_end, with_bytes, with_port, joined, with_answers, urb_said, with_call, last_changed, scene_declares, scene_with};
 
+use crate::call::{
+    bare_call_code, carried_bytes, interface_call_code, plain_call, submit_code, urb_call_code,
+};
 use crate::rules::device_number;
 use crate::scene::{Call, Scene, SceneDevice, SceneThread, SceneUrb, Target};
 use std::alloc::Global;
 use usb_machine::{EndKind, Shape};
-use usb_statement::{BareCall, DeviceBytes, Statement, UrbCall, UrbOption};
-use usb_types::{Buf, List, Memory, calls, code_of};
+use usb_statement::{DeviceBytes, Statement, UrbOption};
+use usb_types::{Buf, List, Memory};
 use usb_xfer::{Answers, DeviceScript, Kind};
 
 // Selected, and no error (printer class 1.1, §4.2.2).
@@ -191,54 +192,6 @@ fn urb_said(scene: &Scene, name: Buf, device: &[u8], address: u8, options: &[Urb
     }
 }
 
-fn plain_call(
-    line: u32,
-    code: u32,
-    target: Target,
-    setup: Option<[u8; 8]>,
-    bytes: Option<Buf>,
-) -> Call
-    ensures { result ≡ plain_call line code target setup bytes }
-{
-    Call {
-        line,
-        code,
-        target,
-        second: None,
-        numbers: [0; 4],
-        setup,
-        bytes,
-    }
-}
-
-// The number of a call in the table of calls, by its word.
-fn call_code(word: &str) -> u32
-    ensures { result ≡ unwrap_or (code_at call_table word.now) 0 }
-{
-    code_of(&calls(), word).unwrap_or(0)
-}
-
-#[tactic(auto, using(crate::proofs::CallCodes::submit_number))]
-fn submit_code() -> u32
-    ensures { result ≡ 1 }
-{
-    call_code("submit")
-}
-
-#[tactic(auto, using(crate::proofs::CallCodes::urb_call_number))]
-fn urb_call_code(call: UrbCall) -> u32
-    ensures { result ≡ urb_call_code call }
-{
-    call_code(call.word())
-}
-
-#[tactic(auto, using(crate::proofs::CallCodes::bare_call_number))]
-fn bare_call_code(call: BareCall) -> u32
-    ensures { result ≡ bare_call_code call }
-{
-    call_code(call.word())
-}
-
 #[tactic(auto, using(crate::proofs::Scenes::on_last_push))]
 fn add_call(threads: &mut List<SceneThread>, call: Call) -> Result<(), Memory>
     ensures { OnOk result (threads.new ≡ on_last (with_call call) threads.old) }
@@ -287,30 +240,35 @@ fn declare(scene: &mut Scene, alloc: Global, statement: Statement) -> Result<(),
     }
 }
 
-/// Adds to the scene what a line says, which calls this URB, if any.
+/// Adds to the scene what a line says, which calls this URB or interface, if any.
 pub fn add(
     scene: &mut Scene,
     alloc: Global,
     line: u32,
     statement: Statement,
-    urb: Target,
+    target: Target,
 ) -> Result<(), Memory>
     requires devices { length scene.old.devices ≤ 16 }
     requires within { IsTrue (is_within scene.old statement) }
-    requires called { urb ≡ called_target scene.old statement }
+    requires called { target ≡ called_target scene.old statement }
     ensures { OnOk result (scene.new ≡ scene_with scene.old line statement) }
 {
     match statement {
         Statement::Submit { setup, bytes, .. } => {
-            let call = plain_call(line, submit_code(), urb, setup, bytes);
+            let call = plain_call(line, submit_code(), target, setup, bytes);
             add_call(&mut scene.threads, call)
         }
         Statement::OnUrb { call, .. } => {
-            let call = plain_call(line, urb_call_code(call), urb, None, None);
+            let call = plain_call(line, urb_call_code(call), target, None, None);
             add_call(&mut scene.threads, call)
         }
         Statement::Alone { call } => {
-            let call = plain_call(line, bare_call_code(call), urb, None, None);
+            let call = plain_call(line, bare_call_code(call), target, None, None);
+            add_call(&mut scene.threads, call)
+        }
+        Statement::OnInterface { call, .. } => {
+            let bytes = carried_bytes(alloc, &call)?;
+            let call = plain_call(line, interface_call_code(&call), target, None, bytes);
             add_call(&mut scene.threads, call)
         }
         declared => declare(scene, alloc, declared),

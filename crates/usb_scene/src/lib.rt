@@ -1,6 +1,7 @@
 //! The text of a scene: its grammar, its faults, and the scene that it says.
 #![tactic(auto)]
 
+mod call;
 mod cause;
 mod draft;
 mod growth;

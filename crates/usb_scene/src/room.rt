@@ -56,9 +56,10 @@ pub fn calls_behind(statement: &Statement, room: u32) -> u32
     ensures { result ≡ room - calls_said statement.now }
 {
     match statement {
-        Statement::Submit { .. } | Statement::OnUrb { .. } | Statement::Alone { .. } => {
-            room.saturating_sub(1)
-        }
+        Statement::Submit { .. }
+        | Statement::OnUrb { .. }
+        | Statement::Alone { .. }
+        | Statement::OnInterface { .. } => room.saturating_sub(1),
         _ => room,
     }
 }
@@ -74,13 +75,20 @@ pub fn most_of(which: DeviceBytes) -> usize
     }
 }
 
+/// Whether the number of an interface is a byte.
+pub fn is_interface(number: u32) -> bool
+    ensures { result ≡ nat_le number 255 }
+{
+    number <= MOST_INTERFACE
+}
+
 /// Whether the number of the interface that an URB's name has is a byte.
 pub fn is_low(urb: &UrbName) -> bool
     ensures { result ≡ is_low urb.now }
 {
     match urb {
         UrbName::Scripted(_) => true,
-        UrbName::Driver { number, .. } => *number <= MOST_INTERFACE,
+        UrbName::Driver { number, .. } => is_interface(*number),
     }
 }
 

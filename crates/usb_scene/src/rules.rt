@@ -1,12 +1,12 @@
 //! Where a line may stand, what is declared before it, and which thread may call the hub.
-ghost use Rattle.std.specs.Prelude.{◌≡◌, ◌<◌, ◌==◌, ◌&&◌, ◌||◌, not, is_some, codes, nat_le, count_by, length, IfSome};
+ghost use Rattle.std.specs.Prelude.{◌≡◌, ◌<◌, ◌≤◌, ◌==◌, ◌&&◌, ◌||◌, not, is_some, codes, nat_le, count_by, length, IfSome};
 ghost use Rattle.std.specs.List.{list_all, list_any};
 ghost use Rattle.std.specs.Str.{bytes_eq};
 ghost use Rattle.usb_machine.specs.declared.layout.Shape.{Shape};
 ghost use Rattle.usb_scene.specs.WellFormed.{is_raw, is_printer, is_packet};
-ghost use Rattle.usb_scene.specs.Rules.{in_devices, last_device, is_of, is_classed, takes, may_stand, fits_device, device_number, thread_number, has_end, has_address, may_answer, is_home, driven_number, numbered_device, bytes_of, has_bytes, is_len, is_again, is_short, are_once, is_hub, last_thread, may_call};
+ghost use Rattle.usb_scene.specs.Rules.{in_devices, last_device, is_of, is_classed, takes, may_stand, fits_device, device_number, thread_number, has_end, has_address, may_answer, is_home, driven_number, interface_target, numbered_device, bytes_of, has_bytes, is_len, is_again, is_short, are_once, is_hub, last_thread, may_call};
 
-use crate::scene::Scene;
+use crate::scene::{Scene, Target};
 use usb_machine::Shape;
 use usb_statement::{BareCall, DeviceBytes, Keyword, Statement, UrbOption};
 use usb_text::is_text;
@@ -201,6 +201,21 @@ pub fn driven_number(scene: &Scene, name: &[u8]) -> Option<usize>
         None
     } else {
         Some(number)
+    }
+}
+
+/// The interface that a line calls, where drivers have its device.
+pub fn interface_target(scene: &Scene, device: &[u8], interface: u32) -> Target
+    requires devices { length scene.now.devices ≤ 16 }
+    requires low { interface ≤ 255 }
+    ensures { result ≡ interface_target scene.now device.now interface }
+{
+    match driven_number(scene, device) {
+        Some(device) => Target::Interface {
+            device: device as u32,
+            interface: interface as u8,
+        },
+        None => Target::Nothing,
     }
 }
 

@@ -66,6 +66,10 @@ pub enum Target {
         interface: u8,
         role: Role,
     },
+    Interface {
+        device: u32,
+        interface: u8,
+    },
     Anchor(u32),
     Device(u32),
 }

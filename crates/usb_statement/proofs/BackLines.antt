@@ -8,13 +8,14 @@ use Rattle.std.proofs.lemmas.Bool.{and_from, not_from_false}
 use Rattle.usb_text.specs.Kinds.{number_of, address_of}
 use Rattle.usb_text.specs.Print.{hex_pair}
 use Rattle.usb_text.proofs.Back.{number_of-decimal, byte_of-hex_pair, address_of-hex_pair}
+use Rattle.usb_statement.specs.InterfaceCalls.{interface_word, interface_call_of}
 use Rattle.usb_statement.specs.Items.{items_of, are_items_of}
 use Rattle.usb_statement.specs.Options.{options_of}
 use Rattle.usb_statement.specs.UrbNames.{name_of}
 use Rattle.usb_statement.specs.Setups.{setup_first, behind_setup}
 use Rattle.usb_statement.specs.Statements.{device_kind_of, kind_of, sent_of, is_empty, answer_with, keyword_of, keyword_said, statement_of}
-use Rattle.usb_statement.specs.Sayable.{IsSayable}
-use Rattle.usb_statement.specs.Printed.{keyword_text, device_kind_text, kind_text, item_text, option_words, setup_words, sent_words, words_said}
+use Rattle.usb_statement.specs.Sayable.{IsCarried, IsSayable}
+use Rattle.usb_statement.specs.Printed.{keyword_text, device_kind_text, kind_text, item_text, option_words, setup_words, sent_words, carried_words, words_said}
 use Rattle.usb_statement.specs.declared.statement.Statement.{Statement}
 use Rattle.usb_statement.specs.declared.statement.Statement.TheVariants as say
 use Rattle.usb_statement.specs.declared.keyword.Keyword.{Keyword}
@@ -25,6 +26,10 @@ use Rattle.usb_statement.specs.declared.keyword.UrbCall.{UrbCall}
 use Rattle.usb_statement.specs.declared.keyword.UrbCall.TheVariants.{Unlink, Kill, Poison, Unpoison, Block, Unblock}
 use Rattle.usb_statement.specs.declared.keyword.BareCall.{BareCall}
 use Rattle.usb_statement.specs.declared.keyword.BareCall.TheVariants.{Serve, Down, Up}
+use Rattle.usb_statement.specs.declared.keyword.InterfaceWord.{InterfaceWord}
+use Rattle.usb_statement.specs.declared.keyword.InterfaceWord.TheVariants as called
+use Rattle.usb_statement.specs.declared.interface_call.InterfaceCall.{InterfaceCall}
+use Rattle.usb_statement.specs.declared.interface_call.InterfaceCall.TheVariants.{Led}
 use Rattle.usb_statement.proofs.BackWords.{back_name, back_device_kind, back_end, back_kind, back_items, back_options, back_urb, back_kept, back_sent}
 use Rattle.usb_statement.proofs.Setups.{back_first, back_behind}
 
@@ -46,6 +51,9 @@ back_alone Serve = refl
 back_alone Down = refl
 back_alone Up = refl
 
+back_on_interface : (which : InterfaceWord) → keyword_of (keyword_text (word.OnInterface which)) ≡ Some (word.OnInterface which)
+back_on_interface called.Led = refl
+
 -- the first word
 pub back_keyword : (keyword : Keyword) → keyword_of (keyword_text keyword) ≡ Some keyword
 back_keyword word.Device = refl
@@ -58,6 +66,11 @@ back_keyword word.Thread = refl
 back_keyword word.Submit = refl
 back_keyword (word.OnUrb call) = back_on_urb call
 back_keyword (word.Alone call) = back_alone call
+back_keyword (word.OnInterface which) = back_on_interface which
+
+-- what a call on an interface carries
+back_carried : (call : InterfaceCall) → IsCarried call → interface_call_of (interface_word call) (carried_words call) ≡ Some call
+back_carried (Led lights) h = ap (option_map (λ b. Led b)) (byte_of-hex_pair lights h)
 
 -- the words behind it
 pub back_words : (st : Statement) → IsSayable st → statement_of (keyword_said st) (words_said st) ≡ Some st
@@ -89,3 +102,8 @@ back_words (say.Submit urb setup bytes) h =
     ∙ ap (λ packet. Some (say.Submit urb packet bytes)) (back_first setup bytes h.1 h.2)
 back_words (say.OnUrb call urb) h = ap (option_map (λ u. say.OnUrb call u)) (back_urb urb h)
 back_words (say.Alone call) h = refl
+back_words (say.OnInterface call device interface) h =
+    let carried = interface_call_of (interface_word call) (carried_words call) in
+    ap (λ o. option_and_then (λ d. option_and_then (λ i. option_and_then (λ c. Some (say.OnInterface c d i)) carried) (number_of (fmt.decimal interface))) o) (back_name device h.on_device)
+    ∙ ap (λ o. option_and_then (λ i. option_and_then (λ c. Some (say.OnInterface c device i)) carried) o) (number_of-decimal interface h.numbered)
+    ∙ ap (λ o. option_and_then (λ c. Some (say.OnInterface c device interface)) o) (back_carried call h.carried)

@@ -11,6 +11,8 @@ use Rattle.usb_statement.specs.declared.statement.Statement.TheVariants as say
 use Rattle.usb_statement.specs.declared.keyword.Keyword.TheVariants as word
 use Rattle.usb_statement.specs.declared.keyword.DeviceBytes.TheVariants.{Desc, Config, Id}
 use Rattle.usb_statement.specs.declared.keyword.UrbCall.TheVariants.{Kill}
+use Rattle.usb_statement.specs.declared.keyword.InterfaceWord.TheVariants as called
+use Rattle.usb_statement.specs.declared.interface_call.InterfaceCall.TheVariants.{Led}
 
 a_keyboard : statement_of word.Device (codes "k" ∷ codes "keyboard" ∷ []) ≡ Some (say.Device (codes "k") Keyboard)
 a_keyboard = refl
@@ -34,6 +36,14 @@ a_port = refl
 
 a_read : statement_of (word.OnUrb Kill) (codes "k.007.in" ∷ []) ≡ Some (say.OnUrb Kill (Driver (codes "k") 7 role.In))
 a_read = refl
+
+lights : statement_of (word.OnInterface called.Led) (codes "k" ∷ codes "300" ∷ codes "1f" ∷ []) ≡ Some (say.OnInterface (Led 31) (codes "k") 300)
+unfolding decode_pairs
+lights = refl
+
+one_digit_is_no_byte : statement_of (word.OnInterface called.Led) (codes "k" ∷ codes "0" ∷ codes "2" ∷ []) ≡ None
+unfolding decode_pairs
+one_digit_is_no_byte = refl
 
 a_port_is_printed : words_said (say.Port 31) ≡ codes "1F" ∷ []
 a_port_is_printed = refl

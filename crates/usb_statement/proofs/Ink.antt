@@ -26,8 +26,8 @@ use Rattle.usb_xfer.specs.declared.script.Item.{Item}
 use Rattle.usb_xfer.specs.declared.script.Kind.{Kind}
 use Rattle.usb_xfer.specs.declared.script.Kind.TheVariants.{Raw, Keyboard, Acm, Printer}
 use Rattle.usb_statement.specs.Statements.{keyword_said}
-use Rattle.usb_statement.specs.Sayable.{IsSayable, IsPacket, IsSayableItem, IsSayableOption, IsUrbName, IsSetup, IsSent}
-use Rattle.usb_statement.specs.Printed.{device_bytes_text, urb_call_text, bare_call_text, keyword_text, device_kind_text, kind_text, role_text, what_text, item_text, option_words, urb_text, setup_words, sent_words, words_said, line_said}
+use Rattle.usb_statement.specs.Sayable.{IsSayable, IsPacket, IsSayableItem, IsSayableOption, IsUrbName, IsSetup, IsSent, IsCarried}
+use Rattle.usb_statement.specs.Printed.{device_bytes_text, urb_call_text, bare_call_text, interface_word_text, keyword_text, device_kind_text, kind_text, role_text, what_text, item_text, option_words, urb_text, setup_words, sent_words, carried_words, words_said, line_said}
 use Rattle.usb_statement.specs.declared.options.UrbOption.{UrbOption}
 use Rattle.usb_statement.specs.declared.options.UrbOption.TheVariants.{Len, Again, Short}
 use Rattle.usb_statement.specs.declared.urb_name.UrbName.{UrbName}
@@ -42,6 +42,10 @@ use Rattle.usb_statement.specs.declared.keyword.UrbCall.{UrbCall}
 use Rattle.usb_statement.specs.declared.keyword.UrbCall.TheVariants.{Unlink, Kill, Poison, Unpoison, Block, Unblock}
 use Rattle.usb_statement.specs.declared.keyword.BareCall.{BareCall}
 use Rattle.usb_statement.specs.declared.keyword.BareCall.TheVariants.{Serve, Down, Up}
+use Rattle.usb_statement.specs.declared.keyword.InterfaceWord.{InterfaceWord}
+use Rattle.usb_statement.specs.declared.keyword.InterfaceWord.TheVariants as called
+use Rattle.usb_statement.specs.declared.interface_call.InterfaceCall.{InterfaceCall}
+use Rattle.usb_statement.specs.declared.interface_call.InterfaceCall.TheVariants.{Led}
 
 -- the bytes of which words are printed: from `*` on
 abbrev is_ink : ℕ → Bool
@@ -200,6 +204,9 @@ inked_alone Serve = record { some = lit< tt; ink = refl }
 inked_alone Down = record { some = lit< tt; ink = refl }
 inked_alone Up = record { some = lit< tt; ink = refl }
 
+inked_on_interface : (which : InterfaceWord) → IsInked (interface_word_text which)
+inked_on_interface called.Led = record { some = lit< tt; ink = refl }
+
 inked_keyword : (keyword : Keyword) → IsInked (keyword_text keyword)
 inked_keyword word.Device = record { some = lit< tt; ink = refl }
 inked_keyword word.Ep = record { some = lit< tt; ink = refl }
@@ -211,6 +218,10 @@ inked_keyword word.Thread = record { some = lit< tt; ink = refl }
 inked_keyword word.Submit = record { some = lit< tt; ink = refl }
 inked_keyword (word.OnUrb call) = inked_on_urb call
 inked_keyword (word.Alone call) = inked_alone call
+inked_keyword (word.OnInterface which) = inked_on_interface which
+
+inked_carried : (call : InterfaceCall) → IsCarried call → AreInked (carried_words call)
+inked_carried (Led lights) h = (inked_byte lights h, tt)
 
 inked_words : (st : Statement) → IsSayable st → AreInked (words_said st)
 inked_words (say.Device name kind) h = (inked_name name h, (inked_device_kind kind, tt))
@@ -225,6 +236,8 @@ inked_words (say.Thread name) h = (inked_name name h, tt)
 inked_words (say.Submit urb setup bytes) h = (inked_urb urb h.0, inked_setup setup (sent_words bytes) h.1 (inked_sent bytes h.2))
 inked_words (say.OnUrb call urb) h = (inked_urb urb h, tt)
 inked_words (say.Alone call) h = tt
+inked_words (say.OnInterface call device interface) h =
+    (inked_name device h.on_device, (inked_number interface h.numbered, inked_carried call h.carried))
 
 inked_line : (st : Statement) → IsSayable st → AreInked (line_said st)
 inked_line st h = (inked_keyword (keyword_said st), inked_words st h)

@@ -8,12 +8,13 @@ use Rattle.usb_text.specs.Kinds.{number_of, is_address, byte_of, address_of}
 use Rattle.usb_text.proofs.Known.{some_if}
 use Rattle.usb_text.proofs.KnownBytes.{small_number, small_byte}
 use Rattle.usb_xfer.specs.declared.script.Item.{Item}
+use Rattle.usb_statement.specs.InterfaceCalls.{interface_call_of}
 use Rattle.usb_statement.specs.Items.{items_of, are_items_of}
 use Rattle.usb_statement.specs.Options.{options_of}
 use Rattle.usb_statement.specs.Setups.{setup_first, behind_setup}
 use Rattle.usb_statement.specs.UrbNames.{name_of, urb_name_of}
 use Rattle.usb_statement.specs.Statements.{device_kind_of, end_of, kind_of, kept_data, sent_of, is_empty, answer_with, statement_of}
-use Rattle.usb_statement.specs.Sayable.{IsSayable, IsSayableItem}
+use Rattle.usb_statement.specs.Sayable.{IsSayable, IsSayableItem, IsCarried}
 use Rattle.usb_statement.specs.declared.statement.Statement.{Statement}
 use Rattle.usb_statement.specs.declared.statement.Statement.TheVariants as say
 use Rattle.usb_statement.specs.declared.keyword.Keyword.{Keyword}
@@ -21,6 +22,9 @@ use Rattle.usb_statement.specs.declared.keyword.Keyword.TheVariants as word
 use Rattle.usb_statement.specs.declared.keyword.DeviceBytes.{DeviceBytes}
 use Rattle.usb_statement.specs.declared.keyword.UrbCall.{UrbCall}
 use Rattle.usb_statement.specs.declared.keyword.BareCall.{BareCall}
+use Rattle.usb_statement.specs.declared.keyword.InterfaceWord.{InterfaceWord}
+use Rattle.usb_statement.specs.declared.keyword.InterfaceWord.TheVariants as called
+use Rattle.usb_statement.specs.declared.interface_call.InterfaceCall.{InterfaceCall}
 use Rattle.usb_statement.proofs.SaidWords.{option_map_some, said_name, said_address, said_end, said_kind, said_items, said_options, said_urb, said_kept, said_sent}
 use Rattle.usb_statement.proofs.Setups.{said_setup}
 
@@ -110,6 +114,24 @@ said_alone : (call : BareCall) (texts : List (List ℕ)) (st : Statement) → st
 said_alone call [] st h = subst IsSayable (same_Some (say.Alone call) st h) tt
 said_alone call (text ∷ texts) st h = cc
 
+said_carried : (which : InterfaceWord) (texts : List (List ℕ)) (call : InterfaceCall) → interface_call_of which texts ≡ Some call → IsCarried call
+said_carried called.Led [] call h = cc
+said_carried called.Led (text ∷ []) call h = option_map_some _ (byte_of text) call h (λ lights e g. subst IsCarried g (small_byte text lights e))
+said_carried called.Led (text ∷ more ∷ texts) call h = cc
+
+said_on_interface : (which : InterfaceWord) (texts : List (List ℕ)) (st : Statement) → statement_of (word.OnInterface which) texts ≡ Some st → IsSayable st
+said_on_interface which [] st h = cc
+said_on_interface which (d ∷ []) st h = cc
+said_on_interface which (d ∷ i ∷ texts) st h =
+    option_and_then_some _ (name_of d) st h (λ device e g.
+    option_and_then_some _ (number_of i) st g (λ interface e2 g2.
+    option_and_then_some _ (interface_call_of which texts) st g2 (λ call e3 g3.
+    subst IsSayable (same_Some (say.OnInterface call device interface) st g3) (record {
+      on_device = said_name d device e;
+      numbered = small_number i interface e2;
+      carried = said_carried which texts call e3;
+    }))))
+
 -- what a line says is what some line can say
 pub said_sayable : (keyword : Keyword) (texts : List (List ℕ)) (st : Statement) → statement_of keyword texts ≡ Some st → IsSayable st
 said_sayable word.Device texts st h = said_device texts st h
@@ -122,3 +144,4 @@ said_sayable word.Thread texts st h = said_thread texts st h
 said_sayable word.Submit texts st h = said_submit texts st h
 said_sayable (word.OnUrb call) texts st h = said_on_urb call texts st h
 said_sayable (word.Alone call) texts st h = said_alone call texts st h
+said_sayable (word.OnInterface which) texts st h = said_on_interface which texts st h

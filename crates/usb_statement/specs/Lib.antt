@@ -1,4 +1,5 @@
 pub mod Chain
+pub mod InterfaceCalls
 pub mod Items
 pub mod Options
 pub mod Printed

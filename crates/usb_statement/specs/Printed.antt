@@ -27,6 +27,10 @@ use Rattle.usb_statement.specs.declared.keyword.UrbCall.{UrbCall}
 use Rattle.usb_statement.specs.declared.keyword.UrbCall.TheVariants.{Unlink, Kill, Poison, Unpoison, Block, Unblock}
 use Rattle.usb_statement.specs.declared.keyword.BareCall.{BareCall}
 use Rattle.usb_statement.specs.declared.keyword.BareCall.TheVariants.{Serve, Down, Up}
+use Rattle.usb_statement.specs.declared.keyword.InterfaceWord.{InterfaceWord}
+use Rattle.usb_statement.specs.declared.keyword.InterfaceWord.TheVariants as called
+use Rattle.usb_statement.specs.declared.interface_call.InterfaceCall.{InterfaceCall}
+use Rattle.usb_statement.specs.declared.interface_call.InterfaceCall.TheVariants.{Led}
 
 abbrev pub device_bytes_text : DeviceBytes → List ℕ
 device_bytes_text Desc = codes "desc"
@@ -46,6 +50,9 @@ bare_call_text Serve = codes "serve"
 bare_call_text Down = codes "down"
 bare_call_text Up = codes "up"
 
+abbrev pub interface_word_text : InterfaceWord → List ℕ
+interface_word_text called.Led = codes "led"
+
 -- the first word
 abbrev pub keyword_text : Keyword → List ℕ
 keyword_text word.Device = codes "device"
@@ -58,6 +65,7 @@ keyword_text word.Thread = codes "thread"
 keyword_text word.Submit = codes "submit"
 keyword_text (word.OnUrb call) = urb_call_text call
 keyword_text (word.Alone call) = bare_call_text call
+keyword_text (word.OnInterface which) = interface_word_text which
 
 -- KIND
 abbrev pub device_kind_text : Kind → List ℕ
@@ -112,6 +120,10 @@ abbrev pub sent_words : Option (List ℕ) → List (List ℕ)
 sent_words None = []
 sent_words (Some bytes) = hex_text bytes ∷ []
 
+-- the words of what a call on an interface carries
+abbrev pub carried_words : InterfaceCall → List (List ℕ)
+carried_words (Led lights) = hex_pair lights ∷ []
+
 -- the words behind the first one
 abbrev pub words_said : Statement → List (List ℕ)
 words_said (say.Device name kind) = name ∷ device_kind_text kind ∷ []
@@ -124,6 +136,7 @@ words_said (say.Thread name) = name ∷ []
 words_said (say.Submit urb setup bytes) = urb_text urb ∷ (setup_words setup ++ sent_words bytes)
 words_said (say.OnUrb call urb) = urb_text urb ∷ []
 words_said (say.Alone call) = []
+words_said (say.OnInterface call device interface) = device ∷ decimal interface ∷ carried_words call
 
 -- all words of the line
 abbrev pub line_said : Statement → List (List ℕ)

@@ -14,6 +14,8 @@ use Rattle.usb_statement.specs.declared.options.UrbOption.{UrbOption}
 use Rattle.usb_statement.specs.declared.options.UrbOption.TheVariants.{Len, Again, Short}
 use Rattle.usb_statement.specs.declared.urb_name.UrbName.{UrbName}
 use Rattle.usb_statement.specs.declared.urb_name.UrbName.TheVariants.{Scripted, Driver}
+use Rattle.usb_statement.specs.declared.interface_call.InterfaceCall.{InterfaceCall}
+use Rattle.usb_statement.specs.declared.interface_call.InterfaceCall.TheVariants.{Led}
 use Rattle.usb_statement.specs.declared.statement.Statement.{Statement}
 use Rattle.usb_statement.specs.declared.statement.Statement.TheVariants as say
 
@@ -84,6 +86,15 @@ pub record IsUrbLine (name device : List ℕ) (address : ℕ) (options : List Ur
   pub valid : is_address address ≡ true
   pub each : All IsSayableOption options
 
+-- what a call on an interface carries
+abbrev pub IsCarried : InterfaceCall → Type 0
+IsCarried (Led lights) = lights < 256
+
+pub record IsInterfaceLine (call : InterfaceCall) (device : List ℕ) (interface : ℕ) : Type 0 where
+  pub on_device : is_name device ≡ true
+  pub numbered : IsNumber interface
+  pub carried : IsCarried call
+
 -- what holds of a statement that some line says
 abbrev pub IsSayable : Statement → Type 0
 IsSayable (say.Device name kind) = is_name name ≡ true
@@ -96,3 +107,4 @@ IsSayable (say.Thread name) = is_name name ≡ true
 IsSayable (say.Submit urb setup bytes) = IsUrbName urb × IsSetup setup × IsSent bytes
 IsSayable (say.OnUrb call urb) = IsUrbName urb
 IsSayable (say.Alone call) = Unit {0}
+IsSayable (say.OnInterface call device interface) = IsInterfaceLine call device interface

@@ -10,6 +10,7 @@ use Rattle.usb_xfer.specs.declared.script.Item.{Item}
 use Rattle.usb_xfer.specs.declared.script.Kind.{Kind}
 use Rattle.usb_xfer.specs.declared.script.Kind.TheVariants.{Raw, Keyboard, Acm, Printer}
 use Rattle.usb_statement.specs.Chain.{◌>>=◌}
+use Rattle.usb_statement.specs.InterfaceCalls.{interface_word, interface_call_of}
 use Rattle.usb_statement.specs.Items.{items_of, are_items_of}
 use Rattle.usb_statement.specs.Options.{options_of}
 use Rattle.usb_statement.specs.Setups.{setup_first, behind_setup}
@@ -24,6 +25,8 @@ use Rattle.usb_statement.specs.declared.keyword.UrbCall.{UrbCall}
 use Rattle.usb_statement.specs.declared.keyword.UrbCall.TheVariants.{Unlink, Kill, Poison, Unpoison, Block, Unblock}
 use Rattle.usb_statement.specs.declared.keyword.BareCall.{BareCall}
 use Rattle.usb_statement.specs.declared.keyword.BareCall.TheVariants.{Serve, Down, Up}
+use Rattle.usb_statement.specs.declared.keyword.InterfaceWord.{InterfaceWord}
+use Rattle.usb_statement.specs.declared.keyword.InterfaceWord.TheVariants.{Led}
 
 -- bytes that a line gives its device
 abbrev pub device_bytes_of : List ℕ → Option DeviceBytes
@@ -52,12 +55,17 @@ bare_call_of text =
     else if bytes_eq text (codes "up") then Some Up
     else None
 
+-- a call on an interface that a driver has
+abbrev pub interface_word_of : List ℕ → Option InterfaceWord
+interface_word_of text = if bytes_eq text (codes "led") then Some Led else None
+
 -- the word of a device's bytes or of a call
-abbrev pub later_keyword : Option DeviceBytes → Option UrbCall → Option BareCall → Option Keyword
-later_keyword (Some which) on bare = Some (word.Bytes which)
-later_keyword None (Some call) bare = Some (word.OnUrb call)
-later_keyword None None (Some call) = Some (word.Alone call)
-later_keyword None None None = None
+abbrev pub later_keyword : Option DeviceBytes → Option UrbCall → Option BareCall → Option InterfaceWord → Option Keyword
+later_keyword (Some which) on bare driven = Some (word.Bytes which)
+later_keyword None (Some call) bare driven = Some (word.OnUrb call)
+later_keyword None None (Some call) driven = Some (word.Alone call)
+later_keyword None None None (Some which) = Some (word.OnInterface which)
+later_keyword None None None None = None
 
 -- the first word
 abbrev pub keyword_of : List ℕ → Option Keyword
@@ -69,7 +77,7 @@ keyword_of text =
     else if bytes_eq text (codes "urb") then Some word.Urb
     else if bytes_eq text (codes "thread") then Some word.Thread
     else if bytes_eq text (codes "submit") then Some word.Submit
-    else later_keyword (device_bytes_of text) (urb_call_of text) (bare_call_of text)
+    else later_keyword (device_bytes_of text) (urb_call_of text) (bare_call_of text) (interface_word_of text)
 
 abbrev pub is_empty : {X : Type 0} → List X → Bool
 is_empty [] = true
@@ -150,6 +158,11 @@ statement_of word.Submit (urb ∷ texts) = do
   Some (say.Submit urb (setup_first texts) bytes)
 statement_of (word.OnUrb call) (urb ∷ []) = option_map (λ urb. say.OnUrb call urb) (urb_name_of urb)
 statement_of (word.Alone call) [] = Some (say.Alone call)
+statement_of (word.OnInterface which) (device ∷ interface ∷ texts) = do
+  device ← name_of device
+  interface ← number_of interface
+  call ← interface_call_of which texts
+  Some (say.OnInterface call device interface)
 statement_of _ _ = None
 
 -- the first word of the line that says this
@@ -164,3 +177,4 @@ keyword_said (say.Thread name) = word.Thread
 keyword_said (say.Submit urb setup bytes) = word.Submit
 keyword_said (say.OnUrb call urb) = word.OnUrb call
 keyword_said (say.Alone call) = word.Alone call
+keyword_said (say.OnInterface call device interface) = word.OnInterface (interface_word call)

@@ -1,7 +1,7 @@
 //! The first word of a line.
 ghost use Rattle.std.specs.Prelude.{◌≡◌};
-ghost use Rattle.usb_statement.specs.Statements.{device_bytes_of, urb_call_of, bare_call_of, later_keyword, keyword_of};
-ghost use Rattle.usb_statement.specs.Printed.{urb_call_text, bare_call_text};
+ghost use Rattle.usb_statement.specs.Statements.{device_bytes_of, urb_call_of, bare_call_of, interface_word_of, later_keyword, keyword_of};
+ghost use Rattle.usb_statement.specs.Printed.{urb_call_text, bare_call_text, interface_word_text};
 
 use usb_text::is_text;
 
@@ -61,6 +61,23 @@ impl BareCall {
     }
 }
 
+/// The word of a call on an interface that a driver has.
+#[derive(Clone, Copy, Debug, PartialEq, Eq)]
+pub enum InterfaceWord {
+    Led,
+}
+
+impl InterfaceWord {
+    /// How it is written.
+    pub fn text(self) -> &'static str
+        ensures { result.now ≡ interface_word_text self }
+    {
+        match self {
+            InterfaceWord::Led => "led",
+        }
+    }
+}
+
 /// What the first word of a line may be.
 #[derive(Clone, Copy, Debug, PartialEq, Eq)]
 pub enum Keyword {
@@ -74,6 +91,7 @@ pub enum Keyword {
     Submit,
     OnUrb(UrbCall),
     Alone(BareCall),
+    OnInterface(InterfaceWord),
 }
 
 fn device_bytes(word: &[u8]) -> Option<DeviceBytes>
@@ -124,14 +142,30 @@ fn bare_call(word: &[u8]) -> Option<BareCall>
     }
 }
 
-fn later_keyword(word: &[u8]) -> Option<Keyword>
-    ensures { result ≡ later_keyword (device_bytes_of word.now) (urb_call_of word.now) (bare_call_of word.now) }
+fn interface_word(word: &[u8]) -> Option<InterfaceWord>
+    ensures { result ≡ interface_word_of word.now }
 {
-    match (device_bytes(word), urb_call(word), bare_call(word)) {
-        (Some(which), _, _) => Some(Keyword::Bytes(which)),
-        (None, Some(call), _) => Some(Keyword::OnUrb(call)),
-        (None, None, Some(call)) => Some(Keyword::Alone(call)),
-        (None, None, None) => None,
+    if is_text(word, "led") {
+        Some(InterfaceWord::Led)
+    } else {
+        None
+    }
+}
+
+fn later_keyword(word: &[u8]) -> Option<Keyword>
+    ensures { result ≡ later_keyword (device_bytes_of word.now) (urb_call_of word.now) (bare_call_of word.now) (interface_word_of word.now) }
+{
+    match (
+        device_bytes(word),
+        urb_call(word),
+        bare_call(word),
+        interface_word(word),
+    ) {
+        (Some(which), _, _, _) => Some(Keyword::Bytes(which)),
+        (None, Some(call), _, _) => Some(Keyword::OnUrb(call)),
+        (None, None, Some(call), _) => Some(Keyword::Alone(call)),
+        (None, None, None, Some(which)) => Some(Keyword::OnInterface(which)),
+        (None, None, None, None) => None,
     }
 }
 

@@ -1,6 +1,7 @@
 //! What a line of a scene says by itself, and the line that says it.
 #![tactic(auto)]
 
+mod interface_call;
 mod items;
 mod kept_data;
 mod keyword;
@@ -10,7 +11,8 @@ mod statement;
 mod statement_laws;
 mod urb_name;
 
-pub use keyword::{BareCall, DeviceBytes, Keyword, UrbCall, read_keyword};
+pub use interface_call::InterfaceCall;
+pub use keyword::{BareCall, DeviceBytes, InterfaceWord, Keyword, UrbCall, read_keyword};
 pub use options::UrbOption;
 pub use statement::{Statement, read_statement};
 pub use statement_laws::{

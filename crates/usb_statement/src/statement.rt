@@ -5,9 +5,10 @@ ghost use Rattle.usb_statement.specs.Statements.{device_kind_of, end_of, kind_of
 ghost use Rattle.usb_statement.specs.declared.keyword.Keyword.{Keyword};
 ghost use Rattle.usb_statement.specs.declared.keyword.Keyword.TheVariants as word;
 
+use crate::interface_call::{InterfaceCall, read_interface_call};
 use crate::items::{are_items_of, read_items};
 use crate::kept_data::{kept, sent};
-use crate::keyword::{BareCall, DeviceBytes, Keyword, UrbCall};
+use crate::keyword::{BareCall, DeviceBytes, InterfaceWord, Keyword, UrbCall};
 use crate::options::{UrbOption, read_options};
 use crate::setup_packet::split_setup;
 use crate::urb_name::{UrbName, read_urb_name};
@@ -61,6 +62,11 @@ pub enum Statement {
     },
     Alone {
         call: BareCall,
+    },
+    OnInterface {
+        call: InterfaceCall,
+        device: Buf,
+        interface: u32,
     },
 }
 
@@ -286,6 +292,35 @@ fn alone(call: BareCall, line: &[u8]) -> Option<Statement>
     }
 }
 
+fn on_interface(
+    alloc: Global,
+    which: InterfaceWord,
+    line: &[u8],
+) -> Result<Option<Statement>, Memory>
+    ensures { IfOk result (λ statement. statement ≡ statement_of (word.OnInterface which) (words line.now)) }
+{
+    let Some((device, line)) = next_word(line) else {
+        return Ok(None);
+    };
+    let Some((interface, line)) = next_word(line) else {
+        return Ok(None);
+    };
+    if !is_name(device) {
+        return Ok(None);
+    }
+    match (number(interface), read_interface_call(which, line)) {
+        (Some(interface), Some(call)) => {
+            let device = copy(alloc, device)?;
+            Ok(Some(Statement::OnInterface {
+                call,
+                device,
+                interface,
+            }))
+        }
+        _ => Ok(None),
+    }
+}
+
 /// What a line says, by its first word and the line behind it. None where the words do not fit the row.
 pub fn read_statement(
     alloc: Global,
@@ -305,5 +340,6 @@ pub fn read_statement(
         Keyword::Submit => submit_of(alloc, line),
         Keyword::OnUrb(call) => on_urb(alloc, call, line),
         Keyword::Alone(call) => Ok(alone(call, line)),
+        Keyword::OnInterface(which) => on_interface(alloc, which, line),
     }
 }

@@ -8,8 +8,8 @@ use Rattle.usb_scene.proofs.Allowed.{allowed_said}
 use Rattle.usb_scene.proofs.Drafts.{draft_with}
 use Rattle.usb_scene.proofs.draft.Draft.with.Goals as goal
 
-pub called_target-urb-requires : goal.called_target-urb-requires
-called_target-urb-requires c = let a = allowed_said c.args.self c.args.statement c.requires.allowed in record { named = a.named; within = a.within }
+pub called_target-target-requires : goal.called_target-target-requires
+called_target-target-requires c = let a = allowed_said c.args.self c.args.statement c.requires.allowed in record { named = a.named; within = a.within }
 
 pub add-requires-clause-within : goal.add-requires-clause-within
 add-requires-clause-within c =
@@ -23,7 +23,7 @@ invariant_of-result c =
     let place = subst (λ (t : SoFar). may_stand t.scene (keyword_said said) ≡ true) same c.requires.place in
     let allowed = subst (λ (t : SoFar). statement_cause t said ≡ None) same c.requires.allowed in
     let count = count_in c.self.inside.rejects.counts in
-    let called = c.called_target-urb.ensures ∙ ap (λ (t : SoFar). called_target t.scene said) same in
+    let called = c.called_target-target.ensures ∙ ap (λ (t : SoFar). called_target t.scene said) same in
     let room = draft_with s c.self.inside.more_replies c.self.inside.more_calls c.args.line count (count_in c.in_ok-rejects.rejects.counts) (number_in c.self.inside.names.numbers) (number_in c.in_ok-names.names.numbers) said c.self.invariant
     (λ urb. c.in_ok-rejects.ensures urb ∙ ap (λ v. counts_behind said v count urb) called) c.in_ok-names.ensures place (allowed_said s said allowed) in
     rw (c.in_ok-add.ensures, c.replies_behind-more_replies.ensures, c.calls_behind-more_calls.ensures) room
