@@ -32,7 +32,7 @@ use Rattle.usb_line.proofs.Calls.{makes_doings}
 -- of two numbers of replies after which a transfer does not go on, neither is the smaller
 same_goes : (s : Scene) (f : Progress) (e : ℕ) (t : Transfer) (n k : ℕ) (c d : Step) → c ≢ More → d ≢ More → GoesTo s f e t n c → GoesTo s f e t k d → (n ≡ k) × (c ≡ d)
 same_goes s f e t n k c d p q g h = dite (ℕ_discrete n k)
-    (λ is. (is, sym g.state ∙ (ap (λ (i : ℕ). moved_state (shape_at s e) t (had_after s f e i)) is ∙ h.state)))
+    (λ is. (is, sym g.state ∙ (ap (λ (i : ℕ). moved_state (shape_at s e) t (had_after s f e t i)) is ∙ h.state)))
     (λ ne. dite (dec_lt n k) (λ l. absurd (p (sym g.state ∙ h.before n g.some l))) (λ l. let m : k < n = omega arith in absurd (q (sym h.state ∙ g.before k h.some m))))
 
 same_served : (s : Scene) (f : Progress) (e u v : ℕ) (t r : Transfer) → IsServed s f e u t → IsServed s f e v r → (u ≡ v) × (t ≡ r)
@@ -62,13 +62,13 @@ module _ (s : Scene) (f : Progress) where
   -- how the endpoint behind the first e ones is gone through
   data Step1 (e : ℕ) (m : Progress) : Progress → Type 0 where
     skips : (m.asleep e ≡ true) ⊎ (pending_of (machine_of s) m.history e ≡ []) → Step1 e m m
-    waits_here : (u : ℕ) (t : Transfer) (n : ℕ) → m.asleep e ≡ false → IsServed s m e u t → GoesTo s m e t n Waiting → Step1 e m (waits s m e n)
+    waits_here : (u : ℕ) (t : Transfer) (n : ℕ) → m.asleep e ≡ false → IsServed s m e u t → GoesTo s m e t n Waiting → Step1 e m (waits s m e t n)
 
   same_step : (e : ℕ) (m k l : Progress) → Step1 e m k → Step1 e m l → k ≡ l
   same_step e m _ _ (skips a) (skips b) = refl
   same_step e m _ _ (skips a) (waits_here u t n awake at goes) = ⊎_elim (λ p. absurd (true≢false (sym p ∙ awake))) (λ p. (let x = sym at.first ∙ p in cc)) a
   same_step e m _ _ (waits_here u t n awake at goes) (skips b) = ⊎_elim (λ p. absurd (true≢false (sym p ∙ awake))) (λ p. (let x = sym at.first ∙ p in cc)) b
-  same_step e m _ _ (waits_here u t n awake at goes) (waits_here v r k awake2 at2 goes2) = let w = both_go s m e u v t r n k Waiting Waiting waited waited at at2 goes goes2 in (λ i. waits s m e (w.2 i))
+  same_step e m _ _ (waits_here u t n awake at goes) (waits_here v r k awake2 at2 goes2) = let w = both_go s m e u v t r n k Waiting Waiting waited waited at at2 goes goes2 in (λ i. waits s m e (w.1 i) (w.2 i))
 
   -- no endpoint that is gone through ends a transfer
   not_ended : (e : ℕ) (m k : Progress) (u : ℕ) (t : Transfer) (n : ℕ) (code : Code) → Step1 e m k → m.asleep e ≡ false → IsServed s m e u t → GoesTo s m e t n (Ended code) → ⊥
@@ -115,13 +115,13 @@ module _ (s : Scene) where
       (λ l. absurd (never_ends s (with_takes s f) e d k m u t n c l q p awake at goes))
       (λ l. let z : d < e = omega arith in absurd (never_ends s (with_takes s f) d e m k v r i b z p q awake2 at2 goes2)))
     where
-      with_end : e ≡ d → m ≡ k → given_back s m (round_of s m u c true t (had_after s m e n)) ≡ given_back s k (round_of s k v b true r (had_after s k d i))
+      with_end : e ≡ d → m ≡ k → given_back s m (round_of s m u c true t (had_after s m e t n)) ≡ given_back s k (round_of s k v b true r (had_after s k d r i))
       with_end is same =
           let there : IsServed s k d u t = subst (λ (z : Progress). IsServed s z d u t) same (subst (λ (e : ℕ). IsServed s m e u t) is at) in
           let way : GoesTo s k d t n (Ended c) = subst (λ (z : Progress). GoesTo s z d t n (Ended c)) same (subst (λ (e : ℕ). GoesTo s m e t n (Ended c)) is goes) in
           let w = both_go s k d u v t r n i (Ended c) (Ended b) (not_more c) (not_more b) there at2 way goes2 in
           let x = w.3 in let code : c ≡ b = cc in
-          (λ j. given_back s (same j) (round_of s (same j) (w.0 j) (code j) true (w.1 j) (had_after s (same j) (is j) (w.2 j))))
+          (λ j. given_back s (same j) (round_of s (same j) (w.0 j) (code j) true (w.1 j) (had_after s (same j) (is j) (w.1 j) (w.2 j))))
 
   not_idle : (f k e : Progress) → Gives s f k → IsIdle s f e → ⊥
   not_idle f _ e (unlinked u w t a) idle = let x = sym a.first ∙ idle.none in cc

@@ -10,8 +10,9 @@ use Rattle.usb_machine.specs.Plain.{Stands}
 use Rattle.usb_line.specs.declared.run.UrbRow.{UrbRow}
 use Rattle.usb_line.specs.Prepared.{machine_of}
 use Rattle.usb_line.specs.Line.{Progress, woken}
-use Rattle.usb_line.specs.Shows.{HoldsTransfer, ShowsEnd, ShowsDevices, Shows}
+use Rattle.usb_line.specs.Shows.{HoldsTransfer, ShowsEnd, ShowsDevices, ShowsCores, Shows}
 use Rattle.usb_line.specs.Awake.{awake}
+use Rattle.usb_line.proofs.Asked.{asked_same}
 use Rattle.usb_line.proofs.Devices.{devices_same}
 
 mapped : {X : Type 0} (f : X → X) (xs : List X) (i : ℕ) (d : X) → i < length xs
@@ -33,16 +34,17 @@ of_map (x ∷ xs) (suc e) end at = of_map xs e end at
 
 holds_woken : (s : Scene) (f : Progress) (u : ℕ) (o : Option Transfer) → HoldsTransfer s f u o → HoldsTransfer s (woken f) u o
 holds_woken s f u None q = q
-holds_woken s f u (Some t) q = (q.0, record { own = q.1.own; start = q.1.start; sent = q.1.sent; moving = q.1.moving; going = q.1.going })
+holds_woken s f u (Some t) q = (q.0, record { start = q.1.start; apt = q.1.apt; sent = q.1.sent; moving = q.1.moving; going = q.1.going })
 
 -- the object with all its endpoints awake
 pub shows_woken : (s : Scene) (f : Progress) (run after : LineRun) → Shows s f run → after.plain ≡ run.plain → after.ends.items ≡ map awake run.ends.items → after.urbs.items ≡ run.urbs.items
-    → after.devices ≡ run.devices → after.given ≡ run.given → after.down ≡ run.down → Shows s (woken f) after
-shows_woken s f run after old plain ends urbs devices given down = record {
+    → after.devices ≡ run.devices → after.cores ≡ run.cores → after.given ≡ run.given → after.down ≡ run.down → Shows s (woken f) after
+shows_woken s f run after old plain ends urbs devices cores given down = record {
   stands = subst (λ plain. Stands plain (machine_of s) f.history) (sym plain) old.stands;
   calm = old.calm;
   linked = old.linked;
-  devices = subst (λ l. ShowsDevices s (woken f) l.items) (sym devices) (devices_same s f (woken f) run.devices.items (λ e. refl) old.devices);
+  devices = subst (λ l. ShowsDevices s (woken f) l.items) (sym devices)
+      (devices_same s f (woken f) run.devices.items (λ e. asked_same s f (woken f) e refl refl (old.unmoved e) (λ u others first. (others, first, refl))) old.devices);
   few_ends = old.few_ends;
   all_ends = ap length ends ∙ (length-map run.ends.items awake ∙ old.all_ends);
   each_end = λ e end at.
@@ -50,8 +52,9 @@ shows_woken s f run after old plain ends urbs devices given down = record {
       let o = old.each_end e b.0 b.1 in
       subst (ShowsEnd s (woken f) e) b.2 record { is = o.is; sleeps = refl; acked = o.acked });
   all_urbs = ap length urbs ∙ old.all_urbs;
-  each_urb = λ u row at. (let o = old.each_urb u row (ap (λ (l : List UrbRow). slice_get l u) (sym urbs) ∙ at) in record { at = o.at; more = o.more; holds = holds_woken s f u row.transfer o.holds });
+  each_urb = λ u row at. (let o = old.each_urb u row (ap (λ (l : List UrbRow). slice_get l u) (sym urbs) ∙ at) in record { at = o.at; owner = o.owner; more = o.more; holds = holds_woken s f u row.transfer o.holds });
   unmoved = old.unmoved;
+  cores = subst (λ l. ShowsCores s f.rounds l.items) (sym cores) old.cores;
   came_back = given ∙ old.came_back;
   host = down ∙ old.host;
 }

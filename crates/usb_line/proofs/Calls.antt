@@ -14,7 +14,6 @@ use Rattle.usb_machine.specs.History.{state_of}
 use Rattle.usb_machine.specs.Calls.{claim_entries, unblock_entries}
 use Rattle.usb_machine.specs.declared.entry.TheConstants.{SERVER, HUB}
 use Rattle.usb_machine.specs.Parts.{part_of}
-use Rattle.usb_machine.specs.Legal.{empty}
 use Rattle.usb_scene.specs.declared.scene.Scene.{Scene}
 use Rattle.usb_scene.specs.declared.scene.SceneThread.{SceneThread}
 use Rattle.usb_scene.specs.declared.scene.Call.{Call}
@@ -24,17 +23,20 @@ use Rattle.usb_line.specs.declared.made.Deed.{Deed}
 use Rattle.usb_line.specs.declared.made.Deed.TheVariants as deed
 use Rattle.usb_line.specs.declared.made.CallAnswer.{CallAnswer}
 use Rattle.usb_line.specs.declared.made.CallAnswer.TheVariants as told
-use Rattle.usb_line.specs.Prepared.{pass_of, deed_of, calls_of, is_hub}
-use Rattle.usb_line.specs.Run.{Doing, urbs_of, call_entries, deed_entries, IsMade, IsAnswered, down_after, AreDowns, done_by}
-use Rattle.usb_line.specs.Line.{Progress, at_start, adds, doing, with_doing, woken, killing, shutting, ClaimsEach, none, one, Makes, at_once, served, killed, poisoned, shut_down, IsLine, start, call}
+use Rattle.usb_line.specs.Prepared.{pass_of, main_pass, deed_of, calls_of, is_hub}
+use Rattle.usb_line.specs.Run.{Doing, urbs_of, opening, call_entries, deed_entries, IsMade, IsAnswered, down_after, AreDowns, done_by}
+use Rattle.usb_line.specs.Line.{Progress, begun, adds, doing, with_doing, woken, killing, shutting, ClaimsEach, none, one, Makes, at_once, served, killed, poisoned, shut_down, IsLine, start, call}
 use Rattle.usb_line.proofs.Held.{rejects_at, down_at}
 use Rattle.usb_line.proofs.Deeds.{raises, withdraws, is_hubs, named, deed_hubs, sum_raised, sum_withdrawn, withdraws_named, withdraws_own, none_or_named}
 use Rattle.usb_line.proofs.Effects.{rejects_effect, down_effect}
+use Rattle.usb_line.proofs.Entries.{AreOf, part_own, part_other}
 use Rattle.usb_line.proofs.Calm.{calm_empty}
+use Rattle.usb_line.proofs.Dues.{due-none}
 use Rattle.usb_line.proofs.Serving.{Serves}
 use Rattle.usb_line.proofs.Turns.{gives_back_serve, gives_back_turned, idle_serves, idle_turned}
 use Rattle.usb_line.proofs.Waits.{woken_serves, woken_turned, wait_turned}
-use Rattle.usb_line.proofs.Passes.{not_server, is_pass, other_threads, thread_at, is_thread, hub_pass}
+use Rattle.usb_line.proofs.ReadsFollow.{reads_pass, begun_serves}
+use Rattle.usb_line.proofs.Passes.{not_server, not_main, main_not_server, is_pass, other_threads, thread_at, is_thread, hub_pass}
 use Rattle.usb_line.proofs.Scripted.{placed, calls_by, next_call, All-middle, All-front, of_thread, only_calls}
 use Rattle.usb_line.proofs.Makings.{IsMadeBy, made_none, made_turned, kill_made, poison_made}
 use Rattle.usb_line.proofs.Nows.{CanCall, IsCalled, now_called}
@@ -56,7 +58,8 @@ sum_withdrawn_by s v calls = sum_by (λ c. withdraws v (deed_of s c)) calls
 pub record Goes (s : Scene) (f : Progress) : Type 0 where
   pub serves : Serves s f
   pub threads : (i : ℕ) → i < length s.threads → part_of f.history (pass_of s i) ≡ flat_map (call_entries s) (done_by i f.doings)
-  pub others : (p : ℕ) → p ≢ SERVER → ((i : ℕ) → i < length s.threads → p ≢ pass_of s i) → part_of f.history p ≡ []
+  pub main : part_of f.history (main_pass s) ≡ opening s
+  pub others : (p : ℕ) → p ≢ SERVER → p ≢ main_pass s → ((i : ℕ) → i < length s.threads → p ≢ pass_of s i) → part_of f.history p ≡ []
   pub told : All (IsMade s) f.doings
   pub downs : AreDowns s false f.doings
   pub down : down_by s false f.doings ≡ f.down
@@ -65,27 +68,22 @@ pub record Goes (s : Scene) (f : Progress) : Type 0 where
   -- a thread holds the rejects that its calls raised and did not withdraw
   pub rejects : (i : ℕ) → i < length s.threads → (v : ℕ) → rejects_at v (part_of f.history (pass_of s i)) + sum_withdrawn_by s v (calls_by i f.doings) ≡ sum_raised_by s v (calls_by i f.doings)
 
-pub goes_start : (s : Scene) → Goes s at_start
-goes_start s = record {
-  serves = record {
-    legal = empty;
-    calm = calm_empty;
-    server = refl;
-    gives = refl;
-    firsts = tt;
-    replies = λ e. refl;
-    moving = λ e. record { none = λ p. refl; whole = λ u others t p q. (let x : [] ≡ u ∷ others = p in cc) };
-    moves = All-nil (_);
-    handled = tt;
-  };
-  threads = λ i l. refl;
-  others = λ p off none. refl;
+-- behind the drivers' reads
+pub goes_begun : (s : Scene) → IsWellFormed s → Goes s (begun s)
+goes_begun s good = record {
+  serves = begun_serves s good;
+  threads = λ i l. part_other (main_pass s) (pass_of s i) (opening s) (λ e. not_main s i l (sym e)) reads;
+  main = part_own (main_pass s) (opening s) reads;
+  others = λ p off main none. part_other (main_pass s) p (opening s) (λ e. main (sym e)) reads;
   told = All-nil (IsMade s);
   downs = tt;
   down = refl;
-  flags = λ v l. refl;
-  rejects = λ i l v. refl;
+  flags = λ v l. ap (down_at v) (part_other (main_pass s) HUB (opening s) (λ e. absurd (omega arith)) reads);
+  rejects = λ i l v. ap (λ m. rejects_at v m + sum_withdrawn_by s v (calls_by i [])) (part_other (main_pass s) (pass_of s i) (opening s) (λ e. not_main s i l (sym e)) reads);
 }
+  where
+    reads : AreOf (main_pass s) (opening s)
+    reads = reads_pass s (urb_count s)
 
 AreDowns-push : (s : Scene) (b : Bool) (ds : List Doing) (d : Doing) → AreDowns s b ds → d.down ≡ down_by s b ds → AreDowns s b (ds ++ d ∷ [])
 AreDowns-push s b [] d all e = (e, tt)
@@ -217,7 +215,8 @@ module _ (s : Scene) (good : IsWellFormed s) (f : Progress) (i : ℕ) (c : Call)
     counted = record {
       serves = keeps_serving done.made.serves;
       threads = parts;
-      others = λ q off none. done.made.elsewhere q off (none i near) ∙ old.others q off none;
+      main = done.made.elsewhere (main_pass s) (main_not_server s) (λ e. not_main s i near (sym e)) ∙ old.main;
+      others = λ q off main none. done.made.elsewhere q off (none i near) ∙ old.others q off main none;
       told = subst (All (IsMade s)) (sym doings_are) (All-push (IsMade s) f.doings d old.told record { thread = subst (λ j. j < length s.threads) (sym thread_is) near; answered = done.answered });
       downs = subst (AreDowns s false) (sym doings_are) (AreDowns-push s false f.doings d old.downs (found ∙ sym old.down));
       down = ap (down_by s false) doings_are ∙ (down_by-push s false f.doings d ∙ ap (λ b. down_after b (deed_of s d.call) d.answer) (old.down ∙ sym done.made.down));
@@ -233,9 +232,10 @@ module _ (s : Scene) (good : IsWellFormed s) (f : Progress) (i : ℕ) (c : Call)
           gives = o.gives;
           firsts = o.firsts;
           replies = o.replies;
-          moving = λ e. record { none = (o.moving e).none; whole = (o.moving e).whole };
+          moving = λ e. record { none = (o.moving e).none; whole = (o.moving e).whole; due = (o.moving e).due };
           moves = o.moves;
           handled = o.handled;
+          bare = o.bare;
         }
 
   -- each call keeps what holds between calls
@@ -284,7 +284,7 @@ makes_doings s f i c _ _ (shut_down rests m is up claims) = (refl, claims_doings
 
 -- the run through calls that begin those of the scene
 pub line_goes : (s : Scene) → IsWellFormed s → (f : Progress) → IsLine s f → (rest : List (ℕ × Call)) → map placed f.doings ++ rest ≡ calls_of s → Goes s f
-line_goes s good _ start rest all = goes_start s
+line_goes s good _ start rest all = goes_begun s good
 line_goes s good _ (call f m i c d line near makes) rest all =
     let same = makes_doings s f i c d m makes in
     let before : map placed f.doings ++ (i, c) ∷ rest ≡ calls_of s

@@ -22,8 +22,8 @@ use Rattle.usb_scene.specs.declared.scene.Scene.{Scene}
 use Rattle.usb_prepare.specs.Ends.{ends_of}
 use Rattle.usb_prepare.specs.Layout.{home}
 use Rattle.usb_line.specs.Prepared.{machine_of, main_pass}
-use Rattle.usb_line.specs.Run.{Giveback, giveback_entries, kills_of, seen_quiet}
-use Rattle.usb_line.specs.Line.{Progress, adds, takes_below, with_takes, round_of, given_back, replies_had, had_after, killing, Gives, unlinked, ended, woken, StaysLoud, begins, goes_on, WaitsFor, already, turns, Closes, none, one}
+use Rattle.usb_line.specs.Run.{Giveback, kills_of, seen_quiet}
+use Rattle.usb_line.specs.Line.{Progress, adds, with_takes, round_of, given_back, replies_had, had_after, killing, Gives, unlinked, ended, woken, StaysLoud, begins, goes_on, WaitsFor, already, turns, Closes, none, one}
 use Rattle.usb_line.proofs.Entries.{AreOf, AllFollow}
 use Rattle.usb_line.proofs.MayFollow.{once, reject_follows, quiet_follows}
 use Rattle.usb_line.proofs.Takes.{below_state}
@@ -31,7 +31,7 @@ use Rattle.usb_line.proofs.Givebacks.{giveback_other}
 use Rattle.usb_line.proofs.Stills.{IsStill, AreStill}
 use Rattle.usb_line.proofs.Calm.{IsCalm, calm_entry}
 use Rattle.usb_line.proofs.Marked.{times-append, first_at_home, marked_at_home}
-use Rattle.usb_line.proofs.Serving.{Serves, takes_serve}
+use Rattle.usb_line.proofs.Serving.{stills_bare, Serves, takes_serve}
 use Rattle.usb_line.proofs.Turns.{passed, gives_serve}
 use Rattle.usb_line.proofs.Waits.{woken_serves, wait_quiet}
 use Rattle.usb_line.proofs.Passes.{main_not_server, main_is_pass}
@@ -83,7 +83,7 @@ module _ (s : Scene) (v : ℕ) where
       let first : pending_of (machine_of s) (with_takes s f).history e ≡ u ∷ at.others = ap (λ h. pending_of (machine_of s) h e) (sym same.history) ∙ at.first in
       let here = first_at_home (machine_of s) (with_takes s f).history e u at.others serves.legal first in
       let queued = pending_is_queued (machine_of s) (with_takes s f).history u serves.legal (once u (pending_of (machine_of s) (with_takes s f).history (home s u)) at.others (ap (pending_of (machine_of s) (with_takes s f).history) (sym here) ∙ first)) in
-      back_out m (round_of s m u code true t (had_after s m e n)) (ap (λ h. (state_of h u).queued) same.history ∙ queued) (ap (λ h. (state_of h v).queued) same.history ∙ takes_out f out)
+      back_out m (round_of s m u code true t (had_after s m e t n)) (ap (λ h. (state_of h u).queued) same.history ∙ queued) (ap (λ h. (state_of h v).queued) same.history ∙ takes_out f out)
 
   loud_out : (u : ℕ) (f m : Progress) → StaysLoud s u f m → Serves s f → IsOut f → IsOut m × Serves s m
   loud_out u f _ (begins loud) old out = (out, old)
@@ -167,42 +167,4 @@ module _ (s : Scene) (f : Progress) (us : List ℕ) (m : Progress) (killed : Are
   pub closed : IsMadeBy s f (main_pass s) (kills_of (main_pass s) us killed.marks killed.rests ++ flat_map (seen_quiet (main_pass s)) us) (adds m (flat_map (seen_quiet (main_pass s)) us))
   closed = made_on s f m (adds m (flat_map (seen_quiet (main_pass s)) us)) (main_pass s) (kills_of (main_pass s) us killed.marks killed.rests) (flat_map (seen_quiet (main_pass s)) us) killed.made
       (made_entries s m (main_pass s) (flat_map (seen_quiet (main_pass s)) us) (main_not_server s) (seen_pass (main_pass s) us)
-      (seen_follow s (main_pass s) (main_is_pass s) us m.history killed.out killed.made.serves.calm) killed.made.serves)
-
--- a history that another begins
-abbrev pub IsLonger : Progress → Progress → Type 0
-IsLonger f m = (ys : List Entry) × (m.history ≡ f.history ++ ys)
-
-longer_none : (f : Progress) → IsLonger f f
-longer_none f = ([], sym (append-nil f.history))
-
-longer_on : (f m k : Progress) → IsLonger f m → IsLonger m k → IsLonger f k
-longer_on f m k a b = (a.0 ++ b.0, b.1 ∙ (ap (λ l. l ++ b.0) a.1 ∙ append_assoc f.history a.0 b.0))
-
-module _ (s : Scene) where
-  gives_longer : (f k : Progress) → Gives s f k → IsLonger f k
-  gives_longer f _ (unlinked u why t is) =
-      let r : Giveback = round_of s (with_takes s f) u (Fault (errno_of why)) false t (replies_had s (with_takes s f) u) in
-      (takes_below s f.history (ends_of s) ++ giveback_entries s r, append_assoc f.history (takes_below s f.history (ends_of s)) (giveback_entries s r))
-  gives_longer f _ (ended e m u t n code unmarked passes near awake at goes) =
-      let r : Giveback = round_of s m u code true t (had_after s m e n) in let same = passed s (with_takes s f) m e passes in
-      (takes_below s f.history (ends_of s) ++ giveback_entries s r, ap (λ l. l ++ giveback_entries s r) same.history ∙ append_assoc f.history (takes_below s f.history (ends_of s)) (giveback_entries s r))
-
-  loud_longer : (u : ℕ) (f m : Progress) → StaysLoud s u f m → IsLonger f m
-  loud_longer u f _ (begins loud) = longer_none f
-  loud_longer u f _ (goes_on m k before turn loud) = longer_on f m k (loud_longer u f m before) (gives_longer m k turn)
-
-  wait_longer : (u : ℕ) (f k : Progress) → WaitsFor s u f k → IsLonger f k
-  wait_longer u f _ (already quiet) = longer_none f
-  wait_longer u f _ (turns m k before turn quiet) = let a = loud_longer u (woken f) m before in longer_on f m k (a.0, a.1) (gives_longer m k turn)
-
-  pub closes_longer : (f : Progress) (us : List ℕ) (m : Progress) → Closes s f us m → IsLonger f m
-  closes_longer f _ _ none = longer_none f
-  closes_longer f _ _ (one us u m k before waits) =
-      let a = closes_longer f us m before in let b = wait_longer u (killing (main_pass s) u m) k waits in let rest : Option ℕ = (state_of k.history u).rest in
-      let last : List Entry = claim_entries (main_pass s) u rest ++ unblock_entries (main_pass s) u in
-      let begin : List Entry = plain_entry (main_pass s) (Reject record { 0 = u }) ∷ mark_entry (main_pass s) Kill u (unlinking (state_of m.history u)) ∷ [] in
-      longer_on f m (adds k last) a (
-        begin ++ (b.0 ++ last),
-        ap (λ l. l ++ last) b.1 ∙ (append_assoc (m.history ++ begin) b.0 last ∙ append_assoc m.history begin (b.0 ++ last)),
-      )
+      (seen_follow s (main_pass s) (main_is_pass s) us m.history killed.out killed.made.serves.calm) (stills_bare s (flat_map (seen_quiet (main_pass s)) us) (seen_still (main_pass s) us)) killed.made.serves)

@@ -17,7 +17,8 @@ use Rattle.usb_prepare.specs.Layout.{urb_count, role_urb}
 use Rattle.usb_prepare.proofs.Facts as facts
 use Rattle.usb_line.specs.declared.made.Deed.{Deed}
 use Rattle.usb_line.specs.declared.made.Deed.TheVariants as deed
-use Rattle.usb_line.specs.Prepared.{deed_on, deed_on_any, deed_by, deed_of}
+use Rattle.usb_line.specs.Prepared.{deed_on, deed_on_any, deed_called, called_urb, deed_by, deed_of}
+use Rattle.usb_line.proofs.Called.{called_near}
 
 -- how many rejects a deed raises on URB v, and how many it withdraws
 abbrev pub raises : ℕ → Deed → ℕ
@@ -30,9 +31,9 @@ withdraws v (deed.Unpoison u) = cond (eqb u v) 1 0
 withdraws v (deed.Unblock u) = cond (eqb u v) 1 0
 withdraws v _ = 0
 
--- the deed is built, and on an URB that is there. Only URBs of the scene's own are submitted
+-- the deed is built, and on an URB that is there
 abbrev pub IsThere : Scene → Deed → Type 0
-IsThere s (deed.Submit u) = u < length s.urbs
+IsThere s (deed.Submit u) = u < urb_count s
 IsThere s (deed.Unlink u) = u < urb_count s
 IsThere s (deed.Kill u) = u < urb_count s
 IsThere s (deed.Poison u) = u < urb_count s
@@ -110,7 +111,7 @@ known_absent s code l m = by_code (λ k. IsKnown s k None deed.Absent)
 module _ (s : Scene) (good : IsWellFormed s) where
   known_own : (code u : ℕ) → 1 ≤ code → code ≤ 7 → u < length s.urbs → IsKnown s code (Some u) (deed_on code u)
   known_own code u l m near = dite (ℕ_discrete 1 code)
-      (λ is. subst (λ k. IsKnown s k (Some u) (deed_on k u)) is record { there = near; raised = λ v. same (eqb u v); withdrawn = λ v. same (eqb u v); hubs = refl })
+      (λ is. subst (λ k. IsKnown s k (Some u) (deed_on k u)) is record { there = (let own = facts.own_urbs s good in omega arith); raised = λ v. same (eqb u v); withdrawn = λ v. same (eqb u v); hubs = refl })
       (λ off. known_urb s code u (omega arith) m (let own = facts.own_urbs s good in omega arith))
 
   known_at : (code : ℕ) (t : Target) → IsBuilt s code t → IsKnown s code (named s t) (deed_by s code t)
@@ -125,6 +126,11 @@ module _ (s : Scene) (good : IsWellFormed s) where
       go : (o : Option ℕ) → role_urb s d i r ≡ o → IsKnown s code o (deed_on_any code o)
       go None e = known_absent s code is.0 is.1
       go (Some u) e = known_urb s code u is.0 is.1 (facts.role_near s good d i u r e).1
+  known_at code (target.Interface d i) is = subst (λ k. IsKnown s k None (deed_by s k (target.Interface d i))) (sym is.0) (go (called_urb s 23 d i) refl)
+    where
+      go : (o : Option ℕ) → called_urb s 23 d i ≡ o → IsKnown s 23 None (deed_called o)
+      go None e = record { there = tt; raised = λ v. refl; withdrawn = λ v. refl; hubs = refl }
+      go (Some u) e = record { there = called_near s good d i u e; raised = λ v. refl; withdrawn = λ v. refl; hubs = refl }
   known_at code (target.Anchor a) is = absurd is
   known_at code (target.Device d) is = absurd is
 
@@ -179,6 +185,9 @@ module _ (s : Scene) (good : IsWellFormed s) where
   same_urb k m v (target.Role d i r) (target.Role e j q) is of at = same_roles d i v e j r q at
   same_urb k m v (target.Role d i r) target.Nothing is of at = refl
   same_urb k m v target.Nothing u is of at = cc
+  same_urb k m v (target.Interface d i) u is of at = cc
+  same_urb k m v (target.Urb a) (target.Interface e j) is of at = refl
+  same_urb k m v (target.Role d i r) (target.Interface e j) is of at = refl
   same_urb k m v (target.Anchor a) u is of at = absurd is
   same_urb k m v (target.Device d) u is of at = absurd is
   same_urb k m v (target.Urb a) (target.Anchor b) is of at = absurd of

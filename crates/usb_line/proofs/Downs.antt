@@ -26,12 +26,12 @@ use Rattle.usb_line.specs.Run.{urbs_of, Doing, deed_entries, IsDownAnswer, IsAns
 use Rattle.usb_line.specs.Line.{Progress, adds, doing, all_flagged, shut_marks, shutting, ClaimsEach, none, one}
 use Rattle.usb_line.proofs.Entries.{AllFollow}
 use Rattle.usb_line.proofs.MayFollow.{mark_follows, flag_follows}
-use Rattle.usb_line.proofs.Stills.{flags_pass, marks_pass}
+use Rattle.usb_line.proofs.Stills.{flags_still, flags_pass, marks_still, marks_pass}
 use Rattle.usb_line.proofs.Each.{marks_by, each_follow}
 use Rattle.usb_line.proofs.Held.{down_at, no_flag, all_flags, marks_no_flag, claims_no_flag, holds_down}
 use Rattle.usb_line.proofs.Deeds.{is_hubs}
 use Rattle.usb_line.proofs.Marked.{times-append}
-use Rattle.usb_line.proofs.Serving.{Serves}
+use Rattle.usb_line.proofs.Serving.{stills_bare, Serves}
 use Rattle.usb_line.proofs.Waits.{wait_serves, wait_turned, wait_quiet}
 use Rattle.usb_line.proofs.Passes.{not_server, is_pass}
 use Rattle.usb_line.proofs.Makings.{IsMadeBy, made_none, made_entries, made_on, made_turned, claim_follow}
@@ -74,7 +74,7 @@ module _ (s : Scene) (p : ℕ) (off : p ≢ SERVER) (there : p < 2 + (length s.t
       subst (λ xs. IsMadeBy s f p xs (adds k (claim_entries p u (state_of k.history u).rest))) (sym (claims-push us rests u (state_of k.history u).rest (claims_length us rests m before)))
       (made_on s f k (adds k (claim_entries p u (state_of k.history u).rest)) p (claims_of p us rests) (claim_entries p u (state_of k.history u).rest) waited
       (made_entries s k p (claim_entries p u (state_of k.history u).rest) off (refl, (refl, tt))
-      (claim_follow s p u there k.history quiet.0 quiet.1 (holds_down (held_of (part_of k.history p) u) down)) waited.serves))
+      (claim_follow s p u there k.history quiet.0 quiet.1 (holds_down (held_of (part_of k.history p) u) down)) (tt, (tt, tt)) waited.serves))
 
 module _ (s : Scene) (f : Progress) (i : ℕ) (c : Call) (can : CanCall s f i c) (is : deed_of s c ≡ deed.Down) (up : f.down ≡ false) where
   abbrev p : ℕ
@@ -92,7 +92,7 @@ module _ (s : Scene) (f : Progress) (i : ℕ) (c : Call) (can : CanCall s f i c)
       (λ u l k same. flag_follows s k u flag.Down (ap (λ (t : UrbState). t.flags.down) same ∙ state_down s f.history u false can.serves.legal (can.flags u l ∙ up))))
 
   flagged : IsMadeBy s f p flags (all_flagged s p f)
-  flagged = made_entries s f p flags (not_server s i) (flags_pass p flag.Down (urbs_of s)) flags_follow can.serves
+  flagged = made_entries s f p flags (not_server s i) (flags_pass p flag.Down (urbs_of s)) flags_follow (stills_bare s flags (flags_still p flag.Down (urbs_of s))) can.serves
 
   abbrev at_flags : List Entry
   at_flags = (all_flagged s p f).history
@@ -110,7 +110,8 @@ module _ (s : Scene) (f : Progress) (i : ℕ) (c : Call) (can : CanCall s f i c)
 
   shut : IsMadeBy s f p (flags ++ marks) (shutting s p f)
   shut = made_on s f (all_flagged s p f) (shutting s p f) p flags marks flagged
-      (made_entries s (all_flagged s p f) p marks (not_server s i) (marks_pass p Shutdown (urbs_of s) (shut_marks s p f)) marks_follow flagged.serves)
+      (made_entries s (all_flagged s p f) p marks (not_server s i) (marks_pass p Shutdown (urbs_of s) (shut_marks s p f)) marks_follow
+      (stills_bare s marks (marks_still p Shutdown (urbs_of s) (shut_marks s p f))) flagged.serves)
 
   all_down : (v : ℕ) → 0 < times v (urbs_of s) → down_at v (part_of (shutting s p f).history p) ≡ true
   all_down v l = ap (down_at v) (shut.own ∙ sym (append_assoc (part_of f.history p) flags marks))

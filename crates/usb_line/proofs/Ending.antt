@@ -19,15 +19,16 @@ use Rattle.usb_prepare.specs.Layout.{urb_count}
 use Rattle.usb_line.specs.declared.run.LineRun.{LineRun}
 use Rattle.usb_line.specs.Prepared.{machine_of, main_pass}
 use Rattle.usb_prepare.specs.Below.{below}
-use Rattle.usb_line.specs.Run.{urbs_of, seen_quiet}
+use Rattle.usb_line.specs.Run.{urbs_of, opening, seen_quiet}
 use Rattle.usb_line.specs.Line.{Progress, adds, killing, Closes, none, one}
 use Rattle.usb_line.specs.Calls.{MayKill, Killed, IsCalled, KilledEach, Closed}
 use Rattle.usb_line.proofs.Entries.{grows}
-use Rattle.usb_line.proofs.Held.{rejects_at}
+use Rattle.usb_line.proofs.Held.{rejects_at, no_reject}
 use Rattle.usb_line.proofs.Effects.{kill_effect}
 use Rattle.usb_line.proofs.Waits.{wait_turned}
 use Rattle.usb_line.proofs.Marked.{times-append}
-use Rattle.usb_line.proofs.Passes.{not_main, main_not_server, main_is_pass}
+use Rattle.usb_line.proofs.Passes.{main_not_server, main_is_pass}
+use Rattle.usb_line.proofs.ReadsFollow.{reads_no_reject}
 use Rattle.usb_line.proofs.Calls.{Goes, line_goes}
 use Rattle.usb_line.proofs.Closing.{closes_kill, seen_still}
 use Rattle.usb_line.proofs.Showing.{shows_still}
@@ -63,11 +64,12 @@ module _ (s : Scene) where
     goes : Goes s f
     goes = line_goes s is.good f is.in_line [] (append-nil _ ∙ is.all)
 
-    no_main : part_of f.history main ≡ []
-    no_main = goes.others main (main_not_server s) (λ i l e. not_main s i l (sym e))
+    -- before the close main holds no reject
+    none_held : (v : ℕ) → rejects_at v (part_of f.history main) ≡ 0
+    none_held v = ap (rejects_at v) goes.main ∙ no_reject v [] (opening s) (reads_no_reject s (urb_count s))
 
     few_rejects : (v : ℕ) (us : List ℕ) (m : Progress) → Closes s f us m → rejects_at v (part_of m.history main) ≡ 0
-    few_rejects v us m closes = closes_held v f us m closes ∙ ap (rejects_at v) no_main
+    few_rejects v us m closes = closes_held v f us m closes ∙ none_held v
 
     module _ (n : ℕ) (now : LineRun) (at : KilledEach s f n now) where
       -- main may kill the next URB

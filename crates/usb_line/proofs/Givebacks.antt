@@ -1,6 +1,5 @@
 -- What is left when the server gave an URB back and its handler ran.
 use Rattle.std.proofs.Common.{ℕ, ◌≡◌, ◌≢◌, ◌+◌, ◌-◌, ◌<◌, Bool, true, false, ◌&&◌, cond, eqb, fold, Option, Some, None, List, [], ◌∷◌, ◌++◌, refl, sym, ap, ◌∙◌, subst, arith, append_assoc}
-use Rattle.std.specs.Prelude.{slice_get}
 use Rattle.std.proofs.lemmas.List.Sums.{fold-append}
 use Rattle.usb_types.specs.declared.errno.Code.{Code}
 use Rattle.usb_types.specs.declared.errno.Code.TheVariants.{Zero, Fault}
@@ -12,7 +11,7 @@ use Rattle.usb_machine.specs.declared.transfer.Transfer.{Transfer}
 use Rattle.usb_machine.specs.declared.entry.Entry.{Entry}
 use Rattle.usb_machine.specs.declared.state.UrbState.{UrbState}
 use Rattle.usb_machine.specs.State.{is_zero, is_clear, status_of}
-use Rattle.usb_machine.specs.Shapes.{HasWindow, Accepts}
+use Rattle.usb_machine.specs.Shapes.{HasWindow}
 use Rattle.usb_machine.specs.History.{state_of, without, line_of, line_after, pending_of, pending_after, sent_of, sent_after}
 use Rattle.usb_machine.specs.Legal.{Follows}
 use Rattle.usb_machine.specs.Calls.{entry, plain_entry}
@@ -23,12 +22,12 @@ use Rattle.usb_line.specs.declared.made.Outcome.{Outcome}
 use Rattle.usb_line.specs.declared.made.Outcome.TheVariants as outcome
 use Rattle.usb_prepare.specs.Ends.{shape_at}
 use Rattle.usb_prepare.specs.Layout.{home}
-use Rattle.usb_line.specs.Prepared.{machine_of}
+use Rattle.usb_line.specs.Prepared.{machine_of, owner_of}
 pub use Rattle.usb_line.specs.Back.{IsGated, IsSettled, CanGive}
 use Rattle.usb_line.specs.Run.{Giveback, moved_in, resent, handled_by, handler_entries, given_entries, giveback_entries}
 use Rattle.usb_line.proofs.Entries.{AreOf, AreAbout, change, own_state, other_state, AllFollow, AllFollow-append}
 use Rattle.usb_line.proofs.MayFollow.{once, finish_follows, give_follows, rest_follows, end_follows, submit_follows, link_follows, submit_owes}
-use Rattle.usb_line.proofs.Moves.{moved_same, takes_same}
+use Rattle.usb_line.proofs.Resending.{resent_number, resent_unmoved}
 
 -- whether a handler submits the transfer again and is accepted
 abbrev pub resubmits : Outcome → Bool
@@ -112,7 +111,7 @@ module _ (s : Scene) (h : List Entry) (r : Giveback) where
 
   handled_at : state_of handled r.urb ≡ handled_state r.outcome (moved_in s r).number (state_of given r.urb)
   handled_at = own_state r.urb given (handled_by r.urb (moved_in s r) (resent s r) r.outcome) (handled_about r.urb (moved_in s r) (resent s r) r.outcome)
-      ∙ handled_change r.urb (moved_in s r) (resent s r) r.outcome (state_of given r.urb) refl
+      ∙ handled_change r.urb (moved_in s r) (resent s r) r.outcome (state_of given r.urb) (resent_number (owner_of s r.urb) r.status (moved_in s r))
 
   -- the URB is queued no more, or again where its handler submitted it, and else its transfer rests
   pub giveback_state : state_of (h ++ giveback_entries s r) r.urb ≡ handled_state r.outcome (moved_in s r).number (record (state_of h r.urb) { queued = false; mark = Clear })
@@ -210,21 +209,14 @@ module _ (s : Scene) (h : List Entry) (r : Giveback) where
     pub back_window : HasWindow (moved_in s r)
     back_window = moved_window (shape_at s (home s r.urb)) r.sent r.replies can.window
 
-    pub again_window : HasWindow (resent s r)
-    again_window = let w = back_window in record { window = w.window; buffer = w.buffer; within = omega arith }
-
-    again_taken : Accepts (slice_get (machine_of s).layout.shapes (home s r.urb)) (resent s r)
-    again_taken = let same = moved_same (shape_at s (home s r.urb)) r.sent r.replies in
-        takes_same _ r.sent (resent s r) record { setup = same.setup; from = same.from; len = same.len; short = same.short; number = same.number } can.taken
-
     abbrev submit : Code → Entry
-    submit c = entry SERVER (Submit record { 0 = r.urb } (moved_in s r).number) (Status c) (Some (resent s r))
+    submit c = entry SERVER (Submit record { 0 = r.urb } (resent s r).number) (Status c) (Some (resent s r))
 
     submitted : (c : Code) → Follows (machine_of s) given (submit c) → AllFollow (machine_of s) given (handled_by r.urb (moved_in s r) (resent s r) (outcome.Again c))
-    submitted Zero f = (f, (link_follows s (given ++ submit Zero ∷ []) SERVER r.urb (omega arith) (submit_owes given SERVER r.urb (moved_in s r).number (Some (resent s r))), tt))
+    submitted Zero f = (f, (link_follows s (given ++ submit Zero ∷ []) SERVER r.urb (omega arith) (submit_owes given SERVER r.urb (resent s r).number (Some (resent s r))), tt))
     submitted (Fault e) f =
         let same : state_of (given ++ submit (Fault e) ∷ []) r.urb ≡ state_of given r.urb = own_state r.urb given (submit (Fault e) ∷ []) (tt, refl, tt) in
-        (f, (rest_follows s (given ++ submit (Fault e) ∷ []) r.urb (resent s r) again_window (subst (λ (t : UrbState). 0 < t.handlers) (sym same) runs), tt))
+        (f, (rest_follows s (given ++ submit (Fault e) ∷ []) r.urb (resent s r) can.goes (subst (λ (t : UrbState). 0 < t.handlers) (sym same) runs), tt))
 
     pub handled_follow : AllFollow (machine_of s) given (handled_by r.urb (moved_in s r) (resent s r) r.outcome)
     handled_follow = go r.outcome can.gated
@@ -232,7 +224,7 @@ module _ (s : Scene) (h : List Entry) (r : Giveback) where
         go : (o : Outcome) → IsGated (state_of given r.urb) o → AllFollow (machine_of s) given (handled_by r.urb (moved_in s r) (resent s r) o)
         go outcome.Rest is = (rest_follows s given r.urb (moved_in s r) back_window runs, tt)
         go (outcome.Again c) is = submitted c (subst (λ (c : Code). Follows (machine_of s) given (submit c)) (sym is)
-            (submit_follows s given SERVER r.urb (omega arith) (resent s r) can.has again_window refl again_taken))
+            (submit_follows s given SERVER r.urb (omega arith) (resent s r) can.has can.goes (resent_unmoved (owner_of s r.urb) r.status (moved_in s r)) can.fits))
 
     pub end_runs : 0 < (state_of handled r.urb).handlers
     end_runs = subst (λ (t : UrbState). 0 < t.handlers) (sym handled_at) (go r.outcome)

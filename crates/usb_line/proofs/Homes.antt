@@ -1,10 +1,11 @@
 -- In a well-formed scene each URB has a home, and the home of one of its own takes what a submit sends where its shape has no
 -- fault.
-use Rattle.std.proofs.Common.{ℕ, zero, suc, ◌≡◌, ◌<◌, ◌≤◌, true, replicate, Option, Some, None, List, [], ◌∷◌, length, refl, sym, subst, arith}
+use Rattle.std.proofs.Common.{ℕ, zero, suc, ◌≡◌, ◌<◌, ◌≤◌, true, replicate, Option, Some, None, List, [], ◌∷◌, length, refl, sym, ◌∙◌, subst, arith, true≢false}
 use Rattle.std.specs.Prelude.{slice_get}
 use Rattle.std.specs.List.{All}
 use Rattle.std.proofs.lemmas.List.{length-replicate}
 use Rattle.usb_machine.specs.declared.layout.Shape.{Shape}
+use Rattle.usb_machine.specs.declared.transfer.Transfer.{Transfer}
 use Rattle.usb_machine.specs.Shapes.{HasWindow, Accepts}
 use Rattle.usb_machine.specs.History.{HasHome}
 use Rattle.usb_xfer.specs.Direction.{asked_at}
@@ -16,6 +17,7 @@ use Rattle.usb_prepare.specs.Ends.{shapes_of, shape_at, is_raw_at}
 use Rattle.usb_prepare.specs.Layout.{urb_count, home}
 use Rattle.usb_prepare.proofs.Facts as facts
 use Rattle.usb_line.specs.Prepared.{machine_of, len_in, buffer_of, fresh, submit_fault}
+use Rattle.usb_line.specs.Shows.{IsApt}
 
 -- what stands at a place of a list
 pub some_at : {X : Type 0} (xs : List X) (k : ℕ) → k < length xs → (x : X) × (slice_get xs k ≡ Some x)
@@ -44,20 +46,20 @@ module _ (s : Scene) (good : IsWellFormed s) (u : ℕ) where
     pub home_asked : asked_at (shape_at s (home s u)) ≡ (shape_at s (home s u)).address
     home_asked = facts.raw_asked s good (home s u) home_raw
 
-    -- where a submit's shape has no fault, the home takes its transfer
-    pub home_takes : (c : Call) → submit_fault s u c ≡ None → Accepts (slice_get (shapes_of s) (home s u)) (fresh s u c)
-    home_takes c e = subst (λ (o : Option Shape). Accepts o (fresh s u c)) (sym (home_shape own_near)) e
+  -- where a submit's shape has no fault, the home takes its transfer
+  pub home_takes : u < urb_count s → (c : Call) → submit_fault s u c ≡ None → Accepts (slice_get (shapes_of s) (home s u)) (fresh s u c)
+  home_takes near c e = subst (λ (o : Option Shape). Accepts o (fresh s u c)) (sym (home_shape near)) e
 
-    short : (us : List SceneUrb) → All (IsUrb s) us → (u : ℕ) → u < length us → len_in (slice_get us u) ≤ 16384
-    short [] a u l = absurd (omega arith)
-    short (x ∷ us) a zero l = (a zero x l).len
-    short (x ∷ us) a (suc u) l = short us (λ k d m. a (suc k) d (omega arith)) u (omega arith)
+  short : (us : List SceneUrb) → All (IsUrb s) us → (u : ℕ) → len_in (slice_get us u) ≤ 16384
+  short [] a u = omega arith
+  short (x ∷ us) a zero = (a zero x (omega arith)).len
+  short (x ∷ us) a (suc u) = short us (λ k d m. a (suc k) d (omega arith)) u
 
-    -- the window of a submit's transfer is its buffer
-    pub fresh_window : (c : Call) → IsBuffer c.bytes → HasWindow (fresh s u c)
-    fresh_window c b = let l = long c.bytes b in record { window = omega arith; buffer = omega arith; within = omega arith }
-      where
-        long : (o : Option (List ℕ)) → IsBuffer o → length (buffer_of (len_in (slice_get s.urbs u)) o) ≤ 16384
-        long None b = let is : length (replicate {A = ℕ} (len_in (slice_get s.urbs u)) 0) ≡ len_in (slice_get s.urbs u) = length-replicate (len_in (slice_get s.urbs u)) 0 in
-            let most = short s.urbs good.urbs u near in omega arith
-        long (Some bytes) b = b
+  -- the window of a submit's transfer is its buffer
+  pub fresh_window : (c : Call) → IsBuffer c.bytes → HasWindow (fresh s u c)
+  fresh_window c b = let l = long c.bytes b in record { window = omega arith; buffer = omega arith; within = omega arith }
+    where
+      long : (o : Option (List ℕ)) → IsBuffer o → length (buffer_of (len_in (slice_get s.urbs u)) o) ≤ 16384
+      long None b = let is : length (replicate {A = ℕ} (len_in (slice_get s.urbs u)) 0) ≡ len_in (slice_get s.urbs u) = length-replicate (len_in (slice_get s.urbs u)) 0 in
+          let most = short s.urbs good.urbs u in omega arith
+      long (Some bytes) b = b

@@ -9,6 +9,12 @@ pub mod Taken
 pub mod Moving
 pub mod Unlinking
 pub mod Returned
+pub mod Questions
+pub mod Controls
+pub mod Dues
+pub mod Asked
+pub mod Cores
+pub mod Falling
 pub mod Chained
 pub mod Devices
 pub mod Pendings
@@ -17,6 +23,7 @@ pub mod Taking
 pub mod Homes
 pub mod Bytes
 pub mod Moves
+pub mod Resending
 pub mod Givebacks
 pub mod Stills
 pub mod Submits
@@ -35,12 +42,15 @@ pub mod Held
 pub mod Deeds
 pub mod Effects
 pub mod Passes
+pub mod ReadsFollow
 pub mod Scripted
 pub mod Makings
 pub mod Nows
 pub mod Downs
 pub mod Calls
+pub mod Longer
 pub mod Closing
+pub mod Lights
 pub mod Lines
 pub mod Alone
 pub mod Stopping
@@ -50,6 +60,7 @@ pub mod Opening
 pub mod Waiting
 pub mod Killing
 pub mod InTurn
+pub mod Called
 pub mod Calling
 pub mod Shutting
 pub mod Threads
@@ -57,3 +68,6 @@ pub mod Ending
 pub mod Telling
 pub mod Submitting
 pub mod Submitted
+pub mod Owners
+pub mod Apt
+pub mod Reading

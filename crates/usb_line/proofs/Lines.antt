@@ -2,6 +2,7 @@
 use Rattle.std.proofs.Common.{ℕ, zero, suc, ◌≡◌, ◌+◌, ◌<◌, ◌≤◌, Bool, true, false, cond, eqb, Some, List, [], ◌∷◌, ◌++◌, length, map, refl, sym, ap, ◌∙◌, subst, arith, append_assoc, append-nil, length-append, eq-eqb, true≢false}
 use Rattle.std.specs.Prelude.{slice_get}
 use Rattle.std.specs.List.{flat_map, All}
+use Rattle.std.proofs.lemmas.List.{append_cancel_left}
 use Rattle.std.proofs.lemmas.List.Elements.{filter-append}
 use mathlib.Core.Logic.{dite}
 use native.Mathlib.Decide.{ℕ_discrete}
@@ -15,20 +16,22 @@ use Rattle.usb_machine.proofs.Rooms.{queued_has_home, home_below, in_line_once}
 use Rattle.usb_scene.specs.declared.scene.Scene.{Scene}
 use Rattle.usb_scene.specs.WellFormed.{IsWellFormed}
 use Rattle.usb_prepare.specs.Layout.{urb_count}
-use Rattle.usb_line.specs.Prepared.{machine_of, script_of, pass_of, main_pass}
+use Rattle.usb_line.specs.Prepared.{machine_of, pass_of, main_pass}
 use Rattle.usb_prepare.specs.Below.{below}
-use Rattle.usb_line.specs.Run.{urbs_of, Giveback, done_by, call_entries, seen_quiet, kills_of, rounds_at, replies_in, firsts_of, IsMade, AreDowns, IsOver, IsClosed, IsRun}
-use Rattle.usb_line.specs.Line.{Progress, adds, IsLineRun}
+use Rattle.usb_line.specs.Run.{urbs_of, Giveback, done_by, call_entries, seen_quiet, kills_of, rounds_at, replies_in, firsts_of, IsMade, AreDowns, opening, IsOver, IsFramed, IsRun}
+use Rattle.usb_line.specs.Line.{Progress, begun, adds, IsLineRun}
 use Rattle.usb_line.proofs.MayFollow.{once}
 use Rattle.usb_line.proofs.Marked.{times-append}
-use Rattle.usb_line.proofs.Scripts.{first_front}
 use Rattle.usb_line.proofs.Serving.{AreFirstGiven, Serves}
-use Rattle.usb_line.proofs.Passes.{not_server, not_main, main_not_server}
+use Rattle.usb_line.proofs.Passes.{not_server, not_main}
 use Rattle.usb_line.proofs.Scripted.{placed as call_of, calls_made}
 use Rattle.usb_line.proofs.Makings.{IsMadeBy}
 use Rattle.usb_line.proofs.Downs.{length-below}
 use Rattle.usb_line.proofs.Calls.{Goes, line_goes}
-use Rattle.usb_line.proofs.Closing.{AreKilled, closes_kill, closed, closes_longer, IsLonger, still_queued, seen_still}
+use Rattle.usb_line.proofs.Entries.{part_own, part_other}
+use Rattle.usb_line.proofs.ReadsFollow.{reads_pass}
+use Rattle.usb_line.proofs.Longer.{IsLonger, line_longer, closes_longer}
+use Rattle.usb_line.proofs.Closing.{AreKilled, closes_kill, closed, still_queued, seen_still}
 
 below_all : (n v : ℕ) → v < n → 0 < times v (below n)
 below_all zero v l = absurd (omega arith)
@@ -111,22 +114,38 @@ module _ (s : Scene) (good : IsWellFormed s) (f : Progress) (run : IsLineRun s f
     ap (λ l. l ++ flat_map (seen_quiet (main_pass s)) urbs) a.1 ∙ append_assoc called.history a.0 (flat_map (seen_quiet (main_pass s)) urbs),
   )
 
-  no_main : part_of called.history (main_pass s) ≡ []
-  no_main = goes.others (main_pass s) (main_not_server s) (λ i l e. not_main s i l (sym e))
+  -- what the calls and their turns added
+  between : IsLonger (begun s) called
+  between = line_longer s called run.in_line
 
-  is_closed : IsClosed s h
-  is_closed = record {
+  abbrev entries : List Entry
+  entries = kills_of (main_pass s) urbs kills.marks kills.rests ++ flat_map (seen_quiet (main_pass s)) urbs
+
+  -- what main's part gains behind the calls is the close
+  main_last : part_of longer.0 (main_pass s) ≡ entries
+  main_last = append_cancel_left (part_of called.history (main_pass s)) (part_of longer.0 (main_pass s)) entries
+      (sym (filter-append (λ x. eqb x.pass (main_pass s)) called.history longer.0) ∙ (ap (λ k. part_of k (main_pass s)) (sym longer.1) ∙ made.own))
+
+  is_framed : IsFramed s h
+  is_framed = record {
     marks = kills.marks;
     rests = kills.rests;
-    before = called.history;
-    behind = longer.0;
+    first = opening s;
+    middle = between.0;
+    last = longer.0;
     each = (kills.marks_each ∙ length-below (urb_count s), kills.rests_each ∙ length-below (urb_count s));
-    main = made.own ∙ ap (λ l. l ++ (kills_of (main_pass s) urbs kills.marks kills.rests ++ flat_map (seen_quiet (main_pass s)) urbs)) no_main;
-    split = longer.1;
-    last = no_main;
-    silent = λ i l. no_part called.history longer.0 (pass_of s i)
-        (ap (λ k. part_of k (pass_of s i)) (sym longer.1) ∙ made.elsewhere (pass_of s i) (not_server s i) (not_main s i l))
-        (filter-append (λ x. eqb x.pass (pass_of s i)) called.history longer.0);
+    split = longer.1 ∙ (ap (λ l. l ++ longer.0) between.1 ∙ append_assoc (opening s) between.0 longer.0);
+    opens = part_own (main_pass s) (opening s) (reads_pass s (urb_count s));
+    between = no_part (opening s) between.0 (main_pass s)
+        (ap (λ k. part_of k (main_pass s)) (sym between.1) ∙ (goes.main ∙ sym (part_own (main_pass s) (opening s) (reads_pass s (urb_count s)))))
+        (filter-append (λ x. eqb x.pass (main_pass s)) (opening s) between.0);
+    closes = main_last;
+    silent = λ i l. (
+      part_other (main_pass s) (pass_of s i) (opening s) (λ e. not_main s i l (sym e)) (reads_pass s (urb_count s)),
+      no_part called.history longer.0 (pass_of s i)
+          (ap (λ k. part_of k (pass_of s i)) (sym longer.1) ∙ made.elsewhere (pass_of s i) (not_server s i) (not_main s i l))
+          (filter-append (λ x. eqb x.pass (pass_of s i)) called.history longer.0),
+    );
   }
 
   is_run : IsRun s h last.doings last.rounds
@@ -137,12 +156,12 @@ module _ (s : Scene) (good : IsWellFormed s) (f : Progress) (run : IsLineRun s f
     downs = subst (AreDowns s false) (sym made.doings) goes.downs;
     calls = λ i thread at. calls_made s last.doings (ap (map call_of) made.doings ∙ run.all) i thread at;
     threads = λ i l. made.elsewhere (pass_of s i) (not_server s i) (not_main s i l) ∙ (goes.threads i l ∙ ap (λ ds. flat_map (call_entries s) (done_by i ds)) (sym made.doings));
-    closed = is_closed;
+    framed = is_framed;
     server = serves.server;
-    others = λ p off main none. made.elsewhere p off main ∙ goes.others p off none;
+    others = λ p off main none. made.elsewhere p off main ∙ goes.others p off main none;
     gives = serves.gives;
     firsts = first_at last.rounds (firsts_of (machine_of s) h) serves.firsts;
-    replies = λ e. first_front (script_of s e) (replies_in (rounds_at s e last.rounds)) (last.so_far e) (serves.replies e);
+    replies = serves.replies;
     moves = serves.moves;
     handled = serves.handled;
   }

@@ -19,7 +19,7 @@ use Rattle.usb_line.specs.Line.{Progress, adds, killing, WaitsFor}
 use Rattle.usb_line.proofs.Entries.{AreOf, grows, stays, own_state, AllFollow, AllFollow-append}
 use Rattle.usb_line.proofs.MayFollow.{mark_follows, reject_follows, withdraw_follows, quiet_follows, claim_follows}
 use Rattle.usb_line.proofs.Held.{rejects_at, no_reject, one_reject, quiet_keeps, holds_reject}
-use Rattle.usb_line.proofs.Serving.{Serves}
+use Rattle.usb_line.proofs.Serving.{AreBare, Serves}
 use Rattle.usb_line.proofs.Others.{others_serve}
 use Rattle.usb_line.proofs.Turns.{IsTurned}
 use Rattle.usb_line.proofs.Waits.{wait_serves, wait_turned, wait_quiet}
@@ -35,9 +35,9 @@ pub record IsMadeBy (s : Scene) (f : Progress) (p : ℕ) (xs : List Entry) (m : 
 pub made_none : (s : Scene) (f : Progress) (p : ℕ) → Serves s f → IsMadeBy s f p [] f
 made_none s f p old = record { serves = old; own = sym (append-nil (part_of f.history p)); elsewhere = λ q off other. refl; doings = refl; down = refl }
 
-pub made_entries : (s : Scene) (f : Progress) (p : ℕ) (xs : List Entry) → p ≢ SERVER → AreOf p xs → AllFollow (machine_of s) f.history xs → Serves s f → IsMadeBy s f p xs (adds f xs)
-made_entries s f p xs off are follow old = record {
-  serves = others_serve s f p xs off are follow old;
+pub made_entries : (s : Scene) (f : Progress) (p : ℕ) (xs : List Entry) → p ≢ SERVER → AreOf p xs → AllFollow (machine_of s) f.history xs → AreBare s xs → Serves s f → IsMadeBy s f p xs (adds f xs)
+made_entries s f p xs off are follow bare old = record {
+  serves = others_serve s f p xs off are follow bare old;
   own = grows p f.history xs are;
   elsewhere = λ q not_server other. stays p f.history xs are q (λ i. other (sym i));
   doings = refl;
@@ -90,7 +90,7 @@ module _ (s : Scene) (p u : ℕ) (there : p < 2 + (length s.threads + 1)) where
 
     -- a kill begins with its reject and its mark
     pub begun : IsMadeBy s f p begins (killing p u f)
-    begun = made_entries s f p begins off (refl, (refl, tt)) (begin_follow f.history) old
+    begun = made_entries s f p begins off (refl, (refl, tt)) (begin_follow f.history) (tt, (tt, tt)) old
 
     waited : IsMadeBy s f p begins m
     waited = made_turned s f (killing p u f) m p begins off begun (wait_serves s u (killing p u f) m waits begun.serves) (wait_turned s u (killing p u f) m waits)
@@ -114,7 +114,7 @@ module _ (s : Scene) (p u : ℕ) (there : p < 2 + (length s.threads + 1)) where
     -- a poison, with its turns
     pub poison_made : IsMadeBy s f p (poison_entries p u (unlinking (state_of f.history u)) rest) (adds m (claim_entries p u rest))
     poison_made = made_on s f m (adds m (claim_entries p u rest)) p begins (claim_entries p u rest) waited
-        (made_entries s m p (claim_entries p u rest) off (refl, (refl, tt)) claimed_follow waited.serves)
+        (made_entries s m p (claim_entries p u rest) off (refl, (refl, tt)) claimed_follow (tt, (tt, tt)) waited.serves)
 
     unblocked_follow : AllFollow (machine_of s) (m.history ++ claim_entries p u rest) (unblock_entries p u)
     unblocked_follow =
@@ -127,4 +127,4 @@ module _ (s : Scene) (p u : ℕ) (there : p < 2 + (length s.threads + 1)) where
     pub kill_made : IsMadeBy s f p (kill_entries p u (unlinking (state_of f.history u)) rest) (adds m (claim_entries p u rest ++ unblock_entries p u))
     kill_made = made_on s f m (adds m (claim_entries p u rest ++ unblock_entries p u)) p begins (claim_entries p u rest ++ unblock_entries p u) waited
         (made_entries s m p (claim_entries p u rest ++ unblock_entries p u) off (refl, (refl, (refl, tt)))
-        (AllFollow-append (machine_of s) m.history (claim_entries p u rest) (unblock_entries p u) claimed_follow unblocked_follow) waited.serves)
+        (AllFollow-append (machine_of s) m.history (claim_entries p u rest) (unblock_entries p u) claimed_follow unblocked_follow) (tt, (tt, (tt, tt))) waited.serves)

@@ -1,9 +1,7 @@
 -- However a transfer is moved, what it asks for stays.
-use Rattle.std.proofs.Common.{ℕ, ◌≡◌, Option, Some, None, List, refl, ◌∙◌}
+use Rattle.std.proofs.Common.{ℕ, ◌≡◌, List, refl}
 use Rattle.usb_machine.specs.declared.layout.Shape.{Shape}
 use Rattle.usb_machine.specs.declared.transfer.Transfer.{Transfer}
-use Rattle.usb_types.specs.declared.errno.Errno.{Errno}
-use Rattle.usb_machine.specs.Shapes.{Accepts, shape_fault}
 use Rattle.usb_xfer.specs.Direction.{Direction, In, Out, ControlIn, ControlOut, direction_of}
 use Rattle.usb_xfer.specs.Replies.{Reply}
 use Rattle.usb_xfer.specs.Moved.{moved, moved_by}
@@ -24,11 +22,3 @@ moved_same_by ControlOut max t replies = record { setup = refl; from = refl; len
 
 pub moved_same : (shape : Shape) (t : Transfer) (replies : List Reply) → AsksSame t (moved shape t replies)
 moved_same shape t replies = moved_same_by (direction_of shape t) shape.max t replies
-
--- an endpoint that takes a transfer takes what asks for the same
-pub takes_same : (o : Option Shape) (t r : Transfer) → AsksSame t r → Accepts o t → Accepts o r
-takes_same None t r same a = a
-takes_same (Some shape) t r same a = (λ i. fault shape (same.setup i) (same.len i)) ∙ a
-  where
-    fault : Shape → Option (List ℕ) → ℕ → Option Errno
-    fault shape setup len = shape_fault shape record t { setup = setup; len = len }

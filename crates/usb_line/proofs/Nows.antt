@@ -2,6 +2,7 @@
 use Rattle.std.proofs.Common.{ℕ, ◌≡◌, ◌+◌, ◌<◌, Bool, true, false, cond, eqb, Option, Some, None, List, [], length, map, refl, sym, ap, ◌∙◌, subst, eq-eqb}
 use Rattle.usb_types.specs.declared.errno.Errno.{Errno}
 use Rattle.usb_types.specs.declared.errno.Errno.TheVariants.{ESHUTDOWN}
+use Rattle.usb_types.specs.declared.errno.Code.{Code}
 use Rattle.usb_types.specs.declared.errno.Code.TheVariants.{Fault}
 use Rattle.usb_types.specs.declared.urb.Why.TheVariants.{Unlink}
 use Rattle.usb_types.specs.declared.urb.Flag.TheVariants as flag
@@ -20,6 +21,8 @@ use Rattle.usb_scene.specs.declared.scene.Scene.{Scene}
 use Rattle.usb_scene.specs.declared.scene.Call.{Call}
 use Rattle.usb_scene.specs.WellFormed.{IsCall, IsWellFormed}
 use Rattle.usb_prepare.specs.Layout.{urb_count}
+use Rattle.usb_line.specs.declared.owner.Owner.{Owner}
+use Rattle.usb_line.specs.Between.{IsBare}
 use Rattle.usb_line.specs.declared.made.Deed.{Deed}
 use Rattle.usb_line.specs.declared.made.Deed.TheVariants as deed
 use Rattle.usb_line.specs.declared.made.CallAnswer.{CallAnswer}
@@ -29,13 +32,16 @@ use Rattle.usb_line.specs.Run.{urbs_of, Doing, submit_of, deed_entries, call_ent
 use Rattle.usb_line.specs.Line.{Progress, adds, doing, submit_answer, answer_now}
 use Rattle.usb_line.proofs.Entries.{AllFollow}
 use Rattle.usb_line.proofs.MayFollow.{mark_follows, reject_follows, withdraw_follows, unflag_follows}
-use Rattle.usb_line.proofs.Homes.{has_home, own_near, home_takes, fresh_window}
+use Rattle.usb_line.specs.Shows.{IsApt}
+use Rattle.usb_line.proofs.Homes.{has_home, home_takes, fresh_window}
+use Rattle.usb_line.proofs.Lights.{fresh_apt}
 use Rattle.usb_line.proofs.Submits.{submit_follow}
+use Rattle.usb_line.proofs.Stills.{unflags_still}
 use Rattle.usb_line.proofs.Each.{each_follow}
 use Rattle.usb_line.proofs.Held.{rejects_at, down_at}
 use Rattle.usb_line.proofs.Deeds.{withdraws, is_hubs, IsThere, deed_there}
 use Rattle.usb_line.proofs.Effects.{entries_pass}
-use Rattle.usb_line.proofs.Serving.{Serves}
+use Rattle.usb_line.proofs.Serving.{AreBare, stills_bare, submit_bare, Serves}
 use Rattle.usb_line.proofs.Passes.{not_server, is_pass}
 use Rattle.usb_line.proofs.Makings.{IsMadeBy, made_entries}
 
@@ -73,12 +79,12 @@ module _ (s : Scene) (good : IsWellFormed s) (f : Progress) (i : ℕ) (c : Call)
   abbrev entries : Deed → CallAnswer → Bool → List Entry
   entries dd a b = deed_entries s p c dd a [] [] b
 
-  submit_now : (u : ℕ) → u < length s.urbs → AllFollow (machine_of s) h (submit_of (submit_fault s u c) p u (fresh s u c) (submit_answer (submit_fault s u c) (refusal (state_of h u))))
+  submit_now : (u : ℕ) → u < urb_count s → AllFollow (machine_of s) h (submit_of (submit_fault s u c) p u (fresh s u c) (submit_answer (submit_fault s u c) (refusal (state_of h u))))
   submit_now u near = go (submit_fault s u c) refl
     where
       go : (o : Option Errno) → submit_fault s u c ≡ o → AllFollow (machine_of s) h (submit_of o p u (fresh s u c) (submit_answer o (refusal (state_of h u))))
       go (Some e) is = tt
-      go None is = submit_follow s h p u (fresh s u c) there (has_home s good u (own_near s good u near)) (fresh_window s good u near c can.is.bytes) refl (home_takes s good u near c is)
+      go None is = submit_follow s h p u (fresh s u c) there (has_home s good u near) (fresh_window s good u c can.is.bytes) refl (home_takes s good u near c is)
 
   submit_told : (u : ℕ) → IsShapeAnswer (submit_fault s u c) (submit_answer (submit_fault s u c) (refusal (state_of h u)))
   submit_told u = go (submit_fault s u c)
@@ -121,6 +127,32 @@ module _ (s : Scene) (good : IsWellFormed s) (f : Progress) (i : ℕ) (c : Call)
   now_follow deed.Absent a e near backed hub = subst (λ a. AllFollow (machine_of s) h (entries deed.Absent a f.down)) (told_of _ a e) tt
   now_follow deed.Other a e near backed hub = cc
 
+  submit_now_bare : (u : ℕ) → IsApt s u (fresh s u c) → (o : Option Errno) (code : Code) → AreBare s (submit_of o p u (fresh s u c) code)
+  submit_now_bare u apt (Some e) code = tt
+  submit_now_bare u apt None code = submit_bare s p u (fresh s u c) code apt.bare
+
+  up_bare : (b : Bool) → AreBare s (entries deed.Up told.Done b)
+  up_bare false = tt
+  up_bare true = stills_bare s _ (unflags_still p flag.Down (urbs_of s))
+
+  now_bare : (dd : Deed) (a : CallAnswer) → answer_now s f c dd ≡ Some a → deed_of s c ≡ dd → AreBare s (entries dd a f.down)
+  now_bare (deed.Submit u) a e is = subst (λ a. AreBare s (entries (deed.Submit u) a f.down)) (told_of _ a e) (submit_now_bare u (fresh_apt s good u c can.is is) (submit_fault s u c) _)
+  now_bare (deed.Unlink u) a e near = subst (λ a. AreBare s (entries (deed.Unlink u) a f.down)) (told_of _ a e) (tt, tt)
+  now_bare (deed.Unpoison u) a e near = subst (λ a. AreBare s (entries (deed.Unpoison u) a f.down)) (told_of _ a e) (tt, tt)
+  now_bare (deed.Block u) a e near = subst (λ a. AreBare s (entries (deed.Block u) a f.down)) (told_of _ a e) (tt, tt)
+  now_bare (deed.Unblock u) a e near = subst (λ a. AreBare s (entries (deed.Unblock u) a f.down)) (told_of _ a e) (tt, tt)
+  now_bare deed.Down a e near = go f.down e
+    where
+      go : (b : Bool) → cond b (Some (told.Code (Fault ESHUTDOWN))) None ≡ Some a → AreBare s (entries deed.Down a f.down)
+      go true e = subst (λ a. AreBare s (entries deed.Down a f.down)) (told_of _ a e) tt
+      go false e = cc
+  now_bare deed.Up a e near = subst (λ a. AreBare s (entries deed.Up a f.down)) (told_of _ a e) (up_bare f.down)
+  now_bare (deed.Kill u) a e near = cc
+  now_bare (deed.Poison u) a e near = cc
+  now_bare deed.Serve a e near = cc
+  now_bare deed.Absent a e near = subst (λ a. AreBare s (entries deed.Absent a f.down)) (told_of _ a e) tt
+  now_bare deed.Other a e near = cc
+
   now_answered : (dd : Deed) (a : CallAnswer) → answer_now s f c dd ≡ Some a → IsAnswered s (made a) dd a
   now_answered (deed.Submit u) a e = subst (λ a. IsAnswered s (made a) (deed.Submit u) a) (told_of _ a e) (submit_told u)
   now_answered (deed.Unlink u) a e = subst (λ a. IsAnswered s (made a) (deed.Unlink u) a) (told_of _ a e) tt
@@ -143,6 +175,6 @@ module _ (s : Scene) (good : IsWellFormed s) (f : Progress) (i : ℕ) (c : Call)
   pub now_called : (a : CallAnswer) → answer_now s f c (deed_of s c) ≡ Some a → IsCalled s f i (made a) (adds f (call_entries s (made a)))
   now_called a e = let answered = now_answered (deed_of s c) a e in record {
     made = made_entries s f p (call_entries s (made a)) (not_server s i) (entries_pass s p (made a) (deed_of s c) a answered)
-        (now_follow (deed_of s c) a e (deed_there s good c can.is) can.backed can.hub) can.serves;
+        (now_follow (deed_of s c) a e (deed_there s good c can.is) can.backed can.hub) (now_bare (deed_of s c) a e refl) can.serves;
     answered = answered;
   }

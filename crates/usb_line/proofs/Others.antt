@@ -20,7 +20,7 @@ use Rattle.usb_line.proofs.MayFollow.{once}
 use Rattle.usb_line.proofs.Calm.{IsQuietEvent, calm_entry}
 use Rattle.usb_line.proofs.Marked.{first_at_home}
 use Rattle.usb_line.proofs.Episodes.{IsNoGive, no_episode, no_first_given}
-use Rattle.usb_line.proofs.Serving.{served, IsMoving, AreFirstGiven, Serves}
+use Rattle.usb_line.proofs.Serving.{served, IsMoving, AreFirstGiven, SentBare, IsBareEntry, AreBare, Serves}
 
 -- an event that is not the server's alone
 abbrev pub IsOther : Event → Type 0
@@ -68,22 +68,35 @@ same_sent h v us (Submit u n) a c is queued = go (eqb u.0 v) refl (accepted a) r
         absurd (true≢false (sym queued ∙ none))
 same_sent h v us _ a c is queued = refl
 
-module _ (s : Scene) (f : Progress) (x : Entry) (off : x.pass ≢ SERVER) (follows : Follows (machine_of s) f.history x) (old : Serves s f) where
+-- what an URB was sent with stays bare
+sent_bare : (s : Scene) (v : ℕ) (t : Option Transfer) (event : Event) (a : Answer) (c : Option Transfer) → IsBareEntry s event c → SentBare s v t → SentBare s v (sent_after v t event a c)
+sent_bare s v t (Submit u n) a c is old = go (eqb u.0 v) refl (accepted a)
+  where
+    go : (b : Bool) → eqb u.0 v ≡ b → (k : Bool) → SentBare s v (cond b (cond k c t) t)
+    go false off k = old
+    go true here false = old
+    go true here true = subst (λ (w : ℕ). SentBare s w c) (eqb-true u.0 v here) is
+sent_bare s v t _ a c is old = old
+
+module _ (s : Scene) (f : Progress) (x : Entry) (off : x.pass ≢ SERVER) (follows : Follows (machine_of s) f.history x) (bare : IsBareEntry s x.event x.carried) (old : Serves s f) where
   is : IsOther x.event
   is = other_event s f.history x.pass x.event off follows.may
 
   pending_stays : (e : ℕ) → pending_of (machine_of s) (f.history ++ x ∷ []) e ≡ pending_of (machine_of s) f.history e
   pending_stays e = pending_of-snoc f.history x (machine_of s) e ∙ same_pending s e (pending_of (machine_of s) f.history e) x.event x.answer is
 
+  -- what is first pending was sent as it was
+  first_stays : (e u : ℕ) (others : List ℕ) → pending_of (machine_of s) f.history e ≡ u ∷ others → sent_of (f.history ++ x ∷ []) u ≡ sent_of f.history u
+  first_stays e u others first =
+      let here = first_at_home (machine_of s) f.history e u others old.legal first in
+      let queued = pending_is_queued (machine_of s) f.history u old.legal (once u (pending_of (machine_of s) f.history (home_of (machine_of s) u)) others (ap (pending_of (machine_of s) f.history) (sym here) ∙ first)) in
+      sent_of-snoc f.history x u ∙ same_sent f.history u (line_of (machine_of s) f.history (end_of x.event)) x.event x.answer x.carried follows.answers queued
+
   other_moving : (e : ℕ) → IsMoving s (adds f (x ∷ [])) e
   other_moving e = record {
     none = λ p. (old.moving e).none (sym (pending_stays e) ∙ p);
-    whole = λ u others t p q.
-        (let first : pending_of (machine_of s) f.history e ≡ u ∷ others = sym (pending_stays e) ∙ p in
-        let here = first_at_home (machine_of s) f.history e u others old.legal first in
-        let queued = pending_is_queued (machine_of s) f.history u old.legal (once u (pending_of (machine_of s) f.history (home_of (machine_of s) u)) others (ap (pending_of (machine_of s) f.history) (sym here) ∙ first)) in
-        (old.moving e).whole u others t first
-        (sym (sent_of-snoc f.history x u ∙ same_sent f.history u (line_of (machine_of s) f.history (end_of x.event)) x.event x.answer x.carried follows.answers queued) ∙ q));
+    whole = λ u others t p q. (let first = sym (pending_stays e) ∙ p in (old.moving e).whole u others t first (sym (first_stays e u others first) ∙ q));
+    due = λ u others t p q. (let first = sym (pending_stays e) ∙ p in (old.moving e).due u others t first (sym (first_stays e u others first) ∙ q));
   }
 
   pub other_serves : Serves s (adds f (x ∷ []))
@@ -97,10 +110,11 @@ module _ (s : Scene) (f : Progress) (x : Entry) (off : x.pass ≢ SERVER) (follo
     moving = other_moving;
     moves = old.moves;
     handled = old.handled;
+    bare = λ v. subst (SentBare s v) (sym (sent_of-snoc f.history x v)) (sent_bare s v (sent_of f.history v) x.event x.answer x.carried bare (old.bare v));
   }
 
 -- and so do more of them
-pub others_serve : (s : Scene) (f : Progress) (q : ℕ) (xs : List Entry) → q ≢ SERVER → AreOf q xs → AllFollow (machine_of s) f.history xs → Serves s f → Serves s (adds f xs)
-others_serve s f q [] off are follow old = subst (λ h. Serves s record f { history = h }) (sym (append-nil f.history)) old
-others_serve s f q (x ∷ xs) off are follow old = subst (λ h. Serves s record f { history = h }) (append_assoc f.history (x ∷ []) xs)
-    (others_serve s (adds f (x ∷ [])) q xs off are.1 follow.1 (other_serves s f x (λ e. off (sym are.0 ∙ e)) follow.0 old))
+pub others_serve : (s : Scene) (f : Progress) (q : ℕ) (xs : List Entry) → q ≢ SERVER → AreOf q xs → AllFollow (machine_of s) f.history xs → AreBare s xs → Serves s f → Serves s (adds f xs)
+others_serve s f q [] off are follow bare old = subst (λ h. Serves s record f { history = h }) (sym (append-nil f.history)) old
+others_serve s f q (x ∷ xs) off are follow bare old = subst (λ h. Serves s record f { history = h }) (append_assoc f.history (x ∷ []) xs)
+    (others_serve s (adds f (x ∷ [])) q xs off are.1 follow.1 bare.1 (other_serves s f x (λ e. off (sym are.0 ∙ e)) follow.0 bare.0 old))

@@ -14,8 +14,10 @@ use Rattle.usb_machine.specs.History.{state_of, pending_of}
 use Rattle.usb_machine.specs.Plain.{urbs_of, ends_of}
 use Rattle.usb_machine.proofs.Sent.{queued_is_sent}
 use Rattle.usb_xfer.proofs.Windows.{moved_window}
+use Rattle.usb_class.specs.declared.class_core.Core.{Core}
 use Rattle.usb_scene.specs.declared.scene.Scene.{Scene}
 use Rattle.usb_scene.specs.WellFormed.{IsWellFormed}
+use Rattle.usb_line.specs.declared.owner.Owner.{Owner}
 use Rattle.usb_line.specs.declared.run.UrbRow.{UrbRow}
 use Rattle.usb_line.specs.declared.run.LineRun.{LineRun}
 use Rattle.usb_prepare.specs.Ends.{shape_at}
@@ -23,9 +25,11 @@ use Rattle.usb_prepare.specs.Layout.{urb_count, home}
 use Rattle.usb_line.specs.Prepared.{machine_of}
 use Rattle.usb_line.specs.Line.{Progress, replies_had}
 use Rattle.usb_line.specs.Shows.{IsMoving, HoldsTransfer, Shows}
+use Rattle.usb_line.specs.Back.{CanNote}
 use Rattle.usb_line.proofs.Homes.{home_shape}
 use Rattle.usb_prepare.proofs.Facts.{home_near}
 use Rattle.usb_line.proofs.Lookups.{set_read}
+use Rattle.usb_line.proofs.Cores.{row_core}
 use Rattle.usb_line.proofs.Scanning.{pending_known}
 
 -- an endpoint that takes a transfer has packets of some size
@@ -91,10 +95,11 @@ pub record CanBring (mid : LineRun) (u : ℕ) : Type 0 where
   pub known : u < urbs_of mid.plain
   pub there : u < length mid.urbs.items
   pub home : (row : UrbRow) → slice_get mid.urbs.items u ≡ Some row → row.home < length mid.ends.items
+  pub core : (row : UrbRow) → slice_get mid.urbs.items u ≡ Some row → CanNote mid.cores.items row.owner
 
 pub can_bring : (s : Scene) (f : Progress) (run mid : LineRun) (old : Shows s f run) → IsWellFormed s → (u : ℕ) (row : UrbRow) → slice_get run.urbs.items u ≡ Some row
-    → mid.urbs.items ≡ slice_set run.urbs.items u (record row { transfer = None }) → length mid.ends.items ≡ length run.ends.items → mid.plain ≡ run.plain → CanBring mid u
-can_bring s f run mid old good u row at rows ends plain =
+    → mid.urbs.items ≡ slice_set run.urbs.items u (record row { transfer = None }) → length mid.ends.items ≡ length run.ends.items → mid.plain ≡ run.plain → mid.cores ≡ run.cores → CanBring mid u
+can_bring s f run mid old good u row at rows ends plain cores =
     let near = slice_get_within run.urbs.items u row at in
     let all = same_urbs s f run old in
     let here : urbs_of mid.plain ≡ urbs_of run.plain = ap urbs_of plain in
@@ -104,4 +109,6 @@ can_bring s f run mid old good u row at rows ends plain =
       known = omega arith;
       there = omega arith;
       home = λ x is. (let same = ap (λ (x : UrbRow). x.home) (set_read run.urbs.items mid.urbs.items u (record row { transfer = None }) x rows is) in omega arith);
+      core = λ x is. (let same = ap (λ (x : UrbRow). x.owner) (set_read run.urbs.items mid.urbs.items u (record row { transfer = None }) x rows is) in
+          subst (λ (o : Option Owner). CanNote mid.cores.items o) (sym same) (subst (λ (l : List Core). CanNote l row.owner) (λ i. (sym cores i).items) (row_core s f run old u row at)));
     }

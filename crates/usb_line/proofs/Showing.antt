@@ -16,6 +16,7 @@ use Rattle.usb_line.specs.Shows.{IsMoving, HoldsTransfer, Shows}
 use Rattle.usb_line.proofs.Stills.{AreStill, stills_pending, stills_sent}
 use Rattle.usb_line.proofs.Calm.{calm_still, linked_still}
 use Rattle.usb_line.proofs.Closing.{still_queued}
+use Rattle.usb_line.proofs.Asked.{asked_same}
 use Rattle.usb_line.proofs.Devices.{devices_same}
 
 module _ (s : Scene) (f : Progress) (xs : List Entry) (still : AreStill xs) where
@@ -27,7 +28,7 @@ module _ (s : Scene) (f : Progress) (xs : List Entry) (still : AreStill xs) wher
 
   moving_still : (u : ℕ) (t : Transfer) → IsMoving s f u t → IsMoving s k u t
   moving_still u t m = record {
-    own = m.own;
+    apt = m.apt;
     start = m.start;
     sent = stills_sent f.history xs still u ∙ m.sent;
     moving = m.moving ∙ ap (moved (shape_at s (home s u)) m.start) (sym (had_still u));
@@ -44,13 +45,16 @@ module _ (s : Scene) (f : Progress) (xs : List Entry) (still : AreStill xs) wher
     stands = stands;
     calm = calm_still f.history xs still old.calm;
     linked = linked_still f.history xs still old.linked;
-    devices = devices_same s f k run.devices.items (λ e. refl) old.devices;
+    devices = devices_same s f k run.devices.items
+        (λ e. asked_same s f k e refl refl (old.unmoved e) (λ u others first. (others, stills_pending f.history xs still (machine_of s) e ∙ first, stills_sent f.history xs still u)))
+        old.devices;
     few_ends = old.few_ends;
     all_ends = old.all_ends;
     each_end = λ e end at. (let o = old.each_end e end at in record { is = o.is; sleeps = o.sleeps; acked = o.acked });
     all_urbs = old.all_urbs;
-    each_urb = λ u row at. (let o = old.each_urb u row at in record { at = o.at; more = o.more; holds = holds_still u row.transfer o.holds });
+    each_urb = λ u row at. (let o = old.each_urb u row at in record { at = o.at; owner = o.owner; more = o.more; holds = holds_still u row.transfer o.holds });
     unmoved = λ e none. old.unmoved e (sym (stills_pending f.history xs still (machine_of s) e) ∙ none);
+    cores = record { all = old.cores.all; each = old.cores.each };
     came_back = old.came_back;
     host = old.host;
   }
@@ -58,7 +62,7 @@ module _ (s : Scene) (f : Progress) (xs : List Entry) (still : AreStill xs) wher
 module _ (s : Scene) (f : Progress) (run : LineRun) (old : Shows s f run) where
   holds_called : (d : Doing) (u : ℕ) (o : Option Transfer) → HoldsTransfer s f u o → HoldsTransfer s (with_doing s f d) u o
   holds_called d u None q = q
-  holds_called d u (Some t) q = (q.0, record { own = q.1.own; start = q.1.start; sent = q.1.sent; moving = q.1.moving; going = q.1.going })
+  holds_called d u (Some t) q = (q.0, record { apt = q.1.apt; start = q.1.start; sent = q.1.sent; moving = q.1.moving; going = q.1.going })
 
   -- a call that is counted changes no more than whether the host is down
   pub shows_called : (d : Doing) (b : Bool) → b ≡ down_after f.down (deed_of s d.call) d.answer → Shows s (with_doing s f d) (record run { down = b })
@@ -66,13 +70,14 @@ module _ (s : Scene) (f : Progress) (run : LineRun) (old : Shows s f run) where
     stands = old.stands;
     calm = old.calm;
     linked = old.linked;
-    devices = devices_same s f (with_doing s f d) run.devices.items (λ e. refl) old.devices;
+    devices = devices_same s f (with_doing s f d) run.devices.items (λ e. asked_same s f (with_doing s f d) e refl refl (old.unmoved e) (λ u others first. (others, first, refl))) old.devices;
     few_ends = old.few_ends;
     all_ends = old.all_ends;
     each_end = λ e end at. (let o = old.each_end e end at in record { is = o.is; sleeps = o.sleeps; acked = o.acked });
     all_urbs = old.all_urbs;
-    each_urb = λ u row at. (let o = old.each_urb u row at in record { at = o.at; more = o.more; holds = holds_called d u row.transfer o.holds });
+    each_urb = λ u row at. (let o = old.each_urb u row at in record { at = o.at; owner = o.owner; more = o.more; holds = holds_called d u row.transfer o.holds });
     unmoved = old.unmoved;
+    cores = record { all = old.cores.all; each = old.cores.each };
     came_back = old.came_back;
     host = is;
   }

@@ -21,10 +21,11 @@ use Rattle.usb_line.specs.declared.made.Outcome.{Outcome}
 use Rattle.usb_line.specs.declared.made.Outcome.TheVariants as outcome
 use Rattle.usb_prepare.specs.Ends.{shape_at}
 use Rattle.usb_prepare.specs.Layout.{home}
-use Rattle.usb_line.specs.Prepared.{machine_of}
+use Rattle.usb_line.specs.Prepared.{machine_of, owner_of}
 use Rattle.usb_line.specs.Run.{Giveback, moved_in, resent, handled_by, given_entries}
 use Rattle.usb_line.specs.Back.{CanGive, finish_entries, given_after, acted_entries, is_again}
 use Rattle.usb_line.proofs.Moves.{moved_same}
+use Rattle.usb_line.proofs.Resending.{resent_number}
 use Rattle.usb_line.proofs.Entries.{AllFollow, own_state}
 use Rattle.usb_line.proofs.Givebacks.{given_follow, handled_follow, end_runs}
 use Rattle.usb_line.proofs.MayFollow.{end_follows}
@@ -66,6 +67,10 @@ module _ (s : Scene) (h : List Entry) (r : Giveback) where
     pub number_back : r.sent.number ≡ (moved_in s r).number
     number_back = sym (moved_same (shape_at s (home s r.urb)) r.sent r.replies).number
 
+    -- and of what is sent again
+    pub number_again : r.sent.number ≡ (resent s r).number
+    number_again = number_back ∙ sym (resent_number (owner_of s r.urb) r.status (moved_in s r))
+
     pub finish_first : r.finished ≡ true → Follows (machine_of s) h (entry SERVER (Finish record { 0 = r.urb } r.status) (Truth true) None)
     finish_first is = go r.finished is (given_follow s h r can)
       where
@@ -81,10 +86,10 @@ module _ (s : Scene) (h : List Entry) (r : Giveback) where
         go false follow = subst (λ l. Follows (machine_of s) l give) (sym (append-nil h)) follow.0
 
     abbrev pub submit : Code → Entry
-    submit c = entry SERVER (Submit record { 0 = r.urb } (moved_in s r).number) (Status c) (Some (resent s r))
+    submit c = entry SERVER (Submit record { 0 = r.urb } (resent s r).number) (Status c) (Some (resent s r))
 
     abbrev pub rest : Transfer → Entry
-    rest t = entry SERVER (Rest record { 0 = r.urb } (moved_in s r).number) Nothing (Some t)
+    rest t = entry SERVER (Rest record { 0 = r.urb } t.number) Nothing (Some t)
 
     abbrev pub link : Entry
     link = plain_entry SERVER (Link record { 0 = r.urb })

@@ -22,10 +22,11 @@ use Rattle.usb_machine.specs.Legal.{IsLegal, times}
 use Rattle.usb_machine.specs.Laws.{bit}
 use Rattle.usb_machine.specs.Calls.{plain_entry, mark_entry, claim_entries}
 use Rattle.usb_xfer.specs.Replies.{Reply}
+use Rattle.usb_xfer.specs.Moved.{moved}
 use Rattle.usb_scene.specs.declared.scene.Scene.{Scene}
 use Rattle.usb_line.specs.declared.made.Outcome.{Outcome}
 use Rattle.usb_line.specs.declared.made.Outcome.TheVariants as outcome
-use Rattle.usb_prepare.specs.Ends.{ends_of}
+use Rattle.usb_prepare.specs.Ends.{ends_of, shape_at}
 use Rattle.usb_prepare.specs.Layout.{urb_count, home}
 use Rattle.usb_line.specs.Prepared.{machine_of}
 use Rattle.usb_line.specs.Run.{urbs_of, Giveback, given_entries, giveback_entries, acts_again, moved_in}
@@ -49,7 +50,7 @@ module _ (u : ℕ) where
     r = round_of s f v status finished t replies
 
     refused_again : is_zero (refusal (record (state_of f.history v) { queued = false })) ≡ false → resubmits r.outcome ≡ false
-    refused_again shut = go (acts_again s f.rounds v)
+    refused_again shut = go (acts_again s f.rounds v status (moved (shape_at s (home s v)) t replies))
       where
         go : (b : Bool) → resubmits (cond b (outcome.Again (refusal (state_of (f.history ++ given_entries v status finished) v))) outcome.Rest) ≡ false
         go false = refl
@@ -72,7 +73,7 @@ module _ (u : ℕ) where
   pub stop_gives : (s : Scene) (f k : Progress) → Gives s f k → Stops f.history → Stops k.history
   stop_gives s f _ (unlinked v why t is) old = stop_back s (with_takes s f) v (Fault (errno_of why)) false t (replies_had s (with_takes s f) v) (stop_takes s f old)
   stop_gives s f _ (ended e m v t n code unmarked passes near awake at goes) old =
-      stop_back s m v code true t (had_after s m e n) (subst Stops (sym (passed s (with_takes s f) m e passes).history) (stop_takes s f old))
+      stop_back s m v code true t (had_after s m e t n) (subst Stops (sym (passed s (with_takes s f) m e passes).history) (stop_takes s f old))
 
   stop_loud : (s : Scene) (w : ℕ) (f m : Progress) → StaysLoud s w f m → Stops f.history → Stops m.history
   stop_loud s w f _ (begins loud) old = old
@@ -93,7 +94,7 @@ module _ (s : Scene) where
   pub linked_gives : (f k : Progress) → Gives s f k → AllLinked f.history → AllLinked k.history
   linked_gives f _ (unlinked v why t is) old = linked_giveback s (with_takes s f).history (round_of s (with_takes s f) v (Fault (errno_of why)) false t (replies_had s (with_takes s f) v)) (linked_takes s f.history (ends_of s) old)
   linked_gives f _ (ended e m v t n code unmarked passes near awake at goes) old =
-      linked_giveback s m.history (round_of s m v code true t (had_after s m e n)) (subst AllLinked (sym (passed s (with_takes s f) m e passes).history) (linked_takes s f.history (ends_of s) old))
+      linked_giveback s m.history (round_of s m v code true t (had_after s m e t n)) (subst AllLinked (sym (passed s (with_takes s f) m e passes).history) (linked_takes s f.history (ends_of s) old))
 
   linked_loud : (w : ℕ) (f m : Progress) → StaysLoud s w f m → AllLinked f.history → AllLinked m.history
   linked_loud w f _ (begins loud) old = old

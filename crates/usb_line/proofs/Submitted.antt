@@ -21,41 +21,44 @@ use Rattle.usb_line.specs.declared.made.Deed.{Deed}
 use Rattle.usb_line.specs.declared.made.Deed.TheVariants as deed
 use Rattle.usb_line.specs.declared.made.CallAnswer.TheVariants as told
 use Rattle.usb_prepare.specs.Ends.{shape_at, shapes_of}
-use Rattle.usb_prepare.specs.Layout.{home}
+use Rattle.usb_prepare.specs.Layout.{urb_count, home}
 use Rattle.usb_line.specs.Prepared.{machine_of, len_in, short_in, buffer_of, fresh, submit_fault, pass_of, deed_of}
 use Rattle.usb_line.specs.Run.{submit_of, deed_entries, down_after}
 use Rattle.usb_line.specs.Line.{Progress, adds, doing, answer_now, submit_answer, at_once}
 use Rattle.usb_line.specs.Shows.{Shows}
 use Rattle.usb_line.specs.Calls.{MayMake, Made}
-use Rattle.usb_line.specs.Sent.{sent_by, MaySend, Sent}
+use Rattle.usb_line.specs.Sent.{said_of, sent_by, MaySend, Sent}
 use Rattle.usb_line.proofs.Stills.{AreStill}
-use Rattle.usb_line.proofs.Homes.{has_home, own_near, home_takes, fresh_window}
+use Rattle.usb_line.specs.Shows.{IsApt}
+use Rattle.usb_line.specs.declared.submit.Said.{Said}
+use Rattle.usb_line.proofs.Homes.{has_home, home_takes, fresh_window}
+use Rattle.usb_line.proofs.Lights.{fresh_apt}
 use Rattle.usb_prepare.proofs.Facts.{home_near}
 use Rattle.usb_line.proofs.Showing.{shows_called}
 use Rattle.usb_line.proofs.Calling.{can, there, is_there, near_plain, made_now}
 
 module _ (s : Scene) (f : Progress) (i : ℕ) (c : Call) (run : LineRun) (p u : ℕ) (may : MayMake s f i c run p (deed.Submit u)) where
-  pub near : u < length s.urbs
+  pub near : u < urb_count s
   near = is_there s f i c run p (deed.Submit u) may
 
   pub few_bytes : IsBuffer c.bytes
   few_bytes = (can s f i c run p (deed.Submit u) may).is.bytes
 
   pub row_near : u < length run.urbs.items
-  row_near = subst (λ n. u < n) (sym may.shows.all_urbs) (own_near s may.good u near)
+  row_near = subst (λ n. u < n) (sym may.shows.all_urbs) near
 
   pub end_near : (row : UrbRow) → slice_get run.urbs.items u ≡ Some row → row.home < length run.ends.items
-  end_near row at = subst (λ n. row.home < n) (sym may.shows.all_ends) (subst (λ (e : ℕ). e < length (shapes_of s)) (sym (may.shows.each_urb u row at).at) (home_near s may.good u (own_near s may.good u near)))
+  end_near row at = subst (λ n. row.home < n) (sym may.shows.all_ends) (subst (λ (e : ℕ). e < length (shapes_of s)) (sym (may.shows.each_urb u row at).at) (home_near s may.good u near))
 
   pub known : u < length run.plain.states.items
-  known = near_plain s f i c run p (deed.Submit u) may u (own_near s may.good u near)
+  known = near_plain s f i c run p (deed.Submit u) may u near
 
-  module _ (urb : SceneUrb) (is : slice_get s.urbs u ≡ Some urb) where
-    pub fresh_is : fresh s u c ≡ sent_by urb c
-    fresh_is j = let buf = buffer_of (len_in (is j)) c.bytes in record { setup = c.setup; buf = buf; from = 0; len = length buf; short_not_ok = short_in (is j); actual = 0; number = c.line }
+  module _ (said : Said) (is : said_of (slice_get s.urbs u) ≡ said) where
+    pub fresh_is : fresh s u c ≡ sent_by said c
+    fresh_is = ap (λ said. sent_by said c) is
 
     -- its shape has a fault, which is seen without its bytes
-    pub fault_is : (o : Option Errno) → o ≡ shape_fault (shape_at s (home s u)) (record (sent_by urb c) { buf = [] }) → submit_fault s u c ≡ o
+    pub fault_is : (o : Option Errno) → o ≡ shape_fault (shape_at s (home s u)) (record (sent_by said c) { buf = [] }) → submit_fault s u c ≡ o
     fault_is o e = ap (shape_fault (shape_at s (home s u))) fresh_is ∙ sym e
 
   pub made_fault : (x : Errno) → submit_fault s u c ≡ Some x → Made s f i c (told.Code (Fault x)) run
@@ -71,11 +74,11 @@ module _ (s : Scene) (f : Progress) (i : ℕ) (c : Call) (run : LineRun) (p u : 
     pub may_send : MaySend s f run p u t
     may_send = record {
       shows = may.shows;
-      near = near;
+      apt = subst (IsApt s u) (sym is) (fresh_apt s may.good u c (can s f i c run p (deed.Submit u) may).is may.does);
       ask = record {
         there = there s f i c run p (deed.Submit u) may;
-        has = has_home s may.good u (own_near s may.good u near);
-        window = subst HasWindow (sym is) (fresh_window s may.good u near c few_bytes);
+        has = has_home s may.good u near;
+        window = subst HasWindow (sym is) (fresh_window s may.good u c few_bytes);
         unmoved = ap (λ (t : Transfer). t.actual) is;
         taken = subst (Accepts (slice_get (shapes_of s) (home s u))) (sym is) (home_takes s may.good u near c none);
       };

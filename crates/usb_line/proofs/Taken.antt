@@ -18,6 +18,7 @@ use Rattle.usb_line.specs.Prepared.{machine_of}
 use Rattle.usb_line.specs.Run.{is_first}
 use Rattle.usb_line.specs.Line.{Progress, with_takes, replies_had}
 use Rattle.usb_line.specs.Shows.{HoldsTransfer, Shows}
+use Rattle.usb_line.proofs.Asked.{asked_same}
 use Rattle.usb_line.proofs.Devices.{devices_same}
 use Rattle.usb_line.proofs.Takes.{below_state, below_sent, pending_above, pending_below}
 use Rattle.usb_line.proofs.Calm.{calm_takes, linked_takes}
@@ -56,8 +57,8 @@ module _ (s : Scene) (f : Progress) (run : LineRun) (old : Shows s f run) (plain
   holds_taken u (Some t) q = (
     ap (λ (t : UrbState). t.queued) (below_state s h (ends_of s) u) ∙ q.0,
     record {
-      own = q.1.own;
       start = q.1.start;
+      apt = q.1.apt;
       sent = below_sent s h (ends_of s) u ∙ q.1.sent;
       moving = q.1.moving ∙ ap (moved (shape_at s (home s u)) q.1.start) (sym (had_taken u));
       going = subst (IsOpen (shape_at s (home s u)) q.1.start) (sym (had_taken u)) q.1.going;
@@ -69,13 +70,17 @@ module _ (s : Scene) (f : Progress) (run : LineRun) (old : Shows s f run) (plain
     stands = stands;
     calm = calm_takes s h (ends_of s) old.calm;
     linked = linked_takes s h (ends_of s) old.linked;
-    devices = devices_same s f k run.devices.items (λ e. refl) old.devices;
+    devices = devices_same s f k run.devices.items
+        (λ d. asked_same s f k d refl refl (old.unmoved d)
+        (λ u others first. (others ++ (longer d).0, (longer d).1 ∙ ap (λ l. l ++ (longer d).0) first, below_sent s h (ends_of s) u)))
+        old.devices;
     few_ends = old.few_ends;
     all_ends = old.all_ends;
     each_end = λ e end at. (let o = old.each_end e end at in record { is = o.is; sleeps = o.sleeps; acked = o.acked });
     all_urbs = old.all_urbs;
-    each_urb = λ u row at. (let o = old.each_urb u row at in record { at = o.at; more = o.more; holds = holds_taken u row.transfer o.holds });
+    each_urb = λ u row at. (let o = old.each_urb u row at in record { at = o.at; owner = o.owner; more = o.more; holds = holds_taken u row.transfer o.holds });
     unmoved = λ d none. old.unmoved d (front_none (pending_of (machine_of s) h d) (longer d).0 (sym (longer d).1 ∙ none));
+    cores = old.cores;
     came_back = old.came_back;
     host = old.host;
   }

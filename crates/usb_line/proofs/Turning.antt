@@ -1,5 +1,5 @@
 -- The look at an endpoint whose first pending transfer is moved on.
-use Rattle.std.proofs.Common.{ℕ, ◌≡◌, ◌<◌, true, false, Option, Some, None, List, [], ◌∷◌, length, sym, ap, ◌∙◌, subst, arith}
+use Rattle.std.proofs.Common.{ℕ, ◌≡◌, ◌<◌, ◌≤◌, true, false, Option, Some, None, List, [], ◌∷◌, length, sym, ap, ◌∙◌, subst, arith}
 use Rattle.std.specs.Prelude.{slice_get}
 use Rattle.usb_types.specs.declared.errno.Code.{Code}
 use Rattle.usb_machine.specs.declared.layout.Shape.{Shape}
@@ -21,7 +21,7 @@ use Rattle.usb_line.specs.Turned.{TakesOut, MovedOn, FallsAsleep, FirstAwake, En
 use Rattle.usb_line.proofs.Scanning.{pending_is_queued_at}
 use Rattle.usb_line.proofs.Unlinking.{first_is}
 use Rattle.usb_line.proofs.Pendings.{IsHeld, held_transfer, held_size, queued_holds, CanBring, can_bring}
-use Rattle.usb_line.proofs.Moving.{ends_at, ended_falls, passes_waiting, waiting_steady}
+use Rattle.usb_line.proofs.Moving.{ends_at, ended_falls, passes_waiting, waiting_keeps}
 
 module _ (s : Scene) (good : IsWellFormed s) (f : Progress) (run mid : LineRun) (old : Shows s f run) (ep u : ℕ) (awake : FirstAwake s f ep (Some u)) where
   here : ep ≡ home s u
@@ -68,7 +68,7 @@ module _ (s : Scene) (good : IsWellFormed s) (f : Progress) (run mid : LineRun) 
       -- it can come back
       pub moved_can_bring : CanBring on u
       moved_can_bring = can_bring s f run on old good u out.row out.at ((λ i. (moves.same_urbs i).items) ∙ out.rows)
-          ((λ i. length (moves.same_ends i).items) ∙ (λ i. length (out.same_ends i).items)) (moves.same.plain ∙ out.same.plain)
+          ((λ i. length (moves.same_ends i).items) ∙ (λ i. length (out.same_ends i).items)) (moves.same.plain ∙ out.same.plain) (moves.same.cores ∙ out.same.cores)
 
       module _ (is : None ≡ code) (new : LineRun) (sleeps : FallsAsleep on new ep u now) where
         sleeps_home : FallsAsleep on new (home s u) u now
@@ -77,8 +77,8 @@ module _ (s : Scene) (good : IsWellFormed s) (f : Progress) (run mid : LineRun) 
         pub by_waiting : PassesBy s f ep new
         by_waiting = subst (λ e. PassesBy s f e new) (sym here) (passes_waiting s good f run mid on old u t now first.0 first.1 out code moves_home is new sleeps_home awake_home)
 
-        pub steady_waiting : turns_left new ≡ turns_left run
-        steady_waiting = waiting_steady s good f run mid on old u t now first.0 first.1 out code moves_home is new sleeps_home
+        pub keeps_waiting : turns_left new ≤ turns_left run
+        keeps_waiting = waiting_keeps s good f run mid on old u t now first.0 first.1 out code moves_home is new sleeps_home
 
       module _ (ending : Code) (is : code ≡ Some ending) (new : LineRun) (back : GaveBack on new u (Some ending) now) (unmarked : marked_of s f.history ≡ []) where
         pub by_ending : EndsAt s f ep new

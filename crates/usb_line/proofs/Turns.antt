@@ -1,5 +1,5 @@
 -- The turns of a run keep what holds between blocks, and no other pass takes part in them.
-use Rattle.std.proofs.Common.{ℕ, ◌≡◌, ◌≢◌, ◌<◌, Bool, true, false, cond, eqb, Some, List, [], ◌∷◌, ◌++◌, length, refl, sym, ap, ◌∙◌, subst, arith, append-nil, eq-eqb, eqb-true, true≢false}
+use Rattle.std.proofs.Common.{ℕ, ◌≡◌, ◌≢◌, ◌<◌, Bool, true, false, cond, eqb, Some, List, [], ◌∷◌, ◌++◌, length, refl, sym, ap, ◌∙◌, subst, arith, eq-eqb, eqb-true, true≢false}
 use Rattle.std.specs.Prelude.{slice_get}
 use Rattle.usb_types.specs.declared.errno.Code.{Code}
 use Rattle.usb_types.specs.declared.errno.Code.TheVariants.{Fault}
@@ -17,23 +17,24 @@ use Rattle.usb_machine.specs.Legal.{times}
 use Rattle.usb_machine.proofs.Rooms.{pending_is_queued, queued_has_home}
 use Rattle.usb_machine.proofs.Sent.{queued_is_sent}
 use Rattle.usb_xfer.specs.Replies.{Reply}
-use Rattle.usb_xfer.specs.Moved.{moved_state, IsWhole}
+use Rattle.usb_xfer.specs.Moved.{moved, moved_state, IsWhole}
 use Rattle.usb_xfer.specs.declared.packet.Step.TheVariants.{Ended}
 use Rattle.usb_scene.specs.declared.scene.Scene.{Scene}
 use Rattle.usb_line.specs.declared.made.Outcome.TheVariants as outcome
 use Rattle.usb_prepare.specs.Ends.{ends_of, shape_at}
 use Rattle.usb_prepare.specs.Layout.{home}
-use Rattle.usb_line.specs.Prepared.{machine_of, script_of}
-use Rattle.usb_line.specs.Run.{Giveback, given_entries, giveback_entries, is_first, acts_again, IsGiveback, IsHandled, rounds_at, replies_in}
-use Rattle.usb_line.specs.Line.{Progress, with_takes, takes_below, is_unlinked, marked_of, had_after, GoesTo, IsServed, IsMarked, outcome_at, round_of, given_back, replies_had, waits, Passes, none, over, stops, Gives, unlinked, ended, GivesBack, one, IsIdle}
+use Rattle.usb_line.specs.Prepared.{machine_of, script_of, owner_of}
+use Rattle.usb_line.specs.Run.{Giveback, resent, given_entries, giveback_entries, is_first, acts_again, IsGiveback, IsHandled, rounds_at, replies_in, asked_in, asked_of}
+use Rattle.usb_line.specs.Line.{Progress, with_takes, takes_below, is_unlinked, marked_of, had_after, GoesTo, IsServed, IsMarked, outcome_at, round_of, given_back, replies_had, waits, Passes, none, over, stops, Gives, unlinked, ended, GivesBack, one, IsIdle, asks}
+use Rattle.usb_line.specs.Due.{next_due}
 use Rattle.usb_line.proofs.Entries.{stays}
 use Rattle.usb_line.proofs.MayFollow.{once}
 use Rattle.usb_line.proofs.Takes.{below_pass}
 use Rattle.usb_line.proofs.Givebacks.{CanGive, IsGated, IsSettled, giveback_pass}
 use Rattle.usb_line.proofs.Calm.{is_finished}
 use Rattle.usb_line.proofs.Marked.{first_at_home, marked_at_home, first_unmarked}
-use Rattle.usb_line.proofs.Scripts.{AreFirst}
-use Rattle.usb_line.proofs.Serving.{Serves, takes_serve, waits_serve, longer_replies, whole_none}
+use Rattle.usb_line.proofs.Resending.{moved_fits}
+use Rattle.usb_line.proofs.Serving.{SentBare, Serves, takes_serve, waits_serve, longer_replies, whole_none, due_none}
 use Rattle.usb_line.proofs.Returning.{CanReturn, left, back_serves}
 
 -- the part of a pass that is not the server's stays, and no call was made
@@ -65,7 +66,7 @@ passes_serve s f _ n none old = old
 passes_serve s f m _ (over e _ p skip) old = passes_serve s f m e p old
 passes_serve s f _ _ (stops e m u t n p awake at goes) old = woke (waits_serve s m (passes_serve s f m e p old) e u at.others t n at.first at.transfer goes.whole)
   where
-    woke : Serves s (waits s m e n) → Serves s (waits s m e n)
+    woke : Serves s (waits s m e t n) → Serves s (waits s m e t n)
     woke q = q
 
 takes_turned : (s : Scene) (f : Progress) → IsTurned f (with_takes s f)
@@ -74,15 +75,16 @@ takes_turned s f = record { parts = λ p off. stays SERVER f.history (takes_belo
 back_turned : (s : Scene) (f : Progress) (r : Giveback) → IsTurned f (given_back s f r)
 back_turned s f r = record { parts = λ p off. stays SERVER f.history (giveback_entries s r) (giveback_pass s f.history r) p (λ i. off (sym i)); doings = refl; down = refl }
 
-pub outcome_gated : (s : Scene) (f : Progress) (u : ℕ) (status : Code) (finished : Bool) → IsGated (state_of (f.history ++ given_entries u status finished) u) (outcome_at s f u status finished)
-outcome_gated s f u status finished = go (acts_again s f.rounds u)
+pub outcome_gated : (s : Scene) (f : Progress) (u : ℕ) (status : Code) (finished : Bool) (t : Transfer)
+    → IsGated (state_of (f.history ++ given_entries u status finished) u) (outcome_at s f u status finished t)
+outcome_gated s f u status finished t = go (acts_again s f.rounds u status t)
   where
     go : (b : Bool) → IsGated (state_of (f.history ++ given_entries u status finished) u) (cond b (outcome.Again (refusal (state_of (f.history ++ given_entries u status finished) u))) outcome.Rest)
     go true = refl
     go false = tt
 
-outcome_handled : (s : Scene) (f : Progress) (u : ℕ) (status : Code) (finished : Bool) → IsHandled (acts_again s f.rounds u) (outcome_at s f u status finished)
-outcome_handled s f u status finished = go (acts_again s f.rounds u)
+outcome_handled : (s : Scene) (f : Progress) (u : ℕ) (status : Code) (finished : Bool) (t : Transfer) → IsHandled (acts_again s f.rounds u status t) (outcome_at s f u status finished t)
+outcome_handled s f u status finished t = go (acts_again s f.rounds u status t)
   where
     go : (b : Bool) → IsHandled b (cond b (outcome.Again (refusal (state_of (f.history ++ given_entries u status finished) u))) outcome.Rest)
     go true = tt
@@ -101,19 +103,25 @@ module _ (s : Scene) (f : Progress) (old : Serves s f) (u : ℕ) (t : Transfer) 
     abbrev r : Giveback
     r = round_of s f u status finished t replies
 
+    -- what is sent again has a window, and its home takes it
+    again_fits : HasWindow (resent s r) × Accepts (slice_get (machine_of s).layout.shapes (home s u)) (resent s r)
+    again_fits = moved_fits (owner_of s u) (slice_get (machine_of s).layout.shapes (home s u)) (shape_at s (home s u)) t replies status sent_fits.1 (subst (SentBare s u) sent (old.bare u)) sent_fits.0
+
     can_give : IsSettled s f.history r finished → CanGive s f.history r
     can_give settled = record {
       among = among;
       has = queued_has_home (machine_of s) u f.history old.legal queued;
       window = sent_fits.0;
       taken = sent_fits.1;
+      goes = again_fits.0;
+      fits = again_fits.1;
       settled = settled;
-      gated = outcome_gated s f u status finished;
+      gated = outcome_gated s f u status finished (moved (shape_at s (home s u)) t replies);
     }
 
     returns : IsSettled s f.history r finished → IsGiveback s r → (0 < length replies → is_first u (pending_of (machine_of s) f.history (home s u)) ≡ true)
-        → AreFirst (script_of s (home s u)) (replies_in (rounds_at s (home s u) f.rounds) ++ (replies ++ left s f r)) → CanReturn s f r
-    returns settled back first are = record { can = can_give settled; sent = sent; giveback = back; handled = outcome_handled s f u status finished; first = first; replies = are }
+        → replies ≡ next_due s (home s u) (asked_of s (home s u) f.rounds) (asked_in s r) → CanReturn s f r
+    returns settled back first due = record { can = can_give settled; sent = sent; giveback = back; handled = outcome_handled s f u status finished (moved (shape_at s (home s u)) t replies); first = first; replies = due }
 
 -- the first unlinked URB comes back with the replies that it had
 module _ (s : Scene) (f : Progress) (old : Serves s f) (u : ℕ) (why : Why) (t : Transfer) (is : IsMarked s f u why t) where
@@ -141,12 +149,19 @@ module _ (s : Scene) (f : Progress) (old : Serves s f) (u : ℕ) (why : Why) (t 
       go true l = refl
       go false l = absurd (omega arith)
 
-  marked_replies : AreFirst (script_of s (home s u)) (replies_in (rounds_at s (home s u) f.rounds) ++ (replies_had s f u ++ left s f back))
-  marked_replies = subst (λ l. AreFirst (script_of s (home s u)) (replies_in (rounds_at s (home s u) f.rounds) ++ l)) (sym (go (is_first u pending))) (old.replies (home s u))
+  abbrev IsDue : List Reply → Type 0
+  IsDue l = l ≡ next_due s (home s u) (asked_of s (home s u) f.rounds) (asks s (home s u) t (length l))
+
+  marked_replies : IsDue (replies_had s f u)
+  marked_replies = go pending refl
     where
-      go : (b : Bool) → cond b (f.so_far (home s u)) [] ++ cond b [] (f.so_far (home s u)) ≡ f.so_far (home s u)
-      go true = append-nil (f.so_far (home s u))
-      go false = refl
+      go : (us : List ℕ) → pending ≡ us → IsDue (cond (is_first u us) (f.so_far (home s u)) [])
+      go [] e = due_none s (home s u) (asked_of s (home s u) f.rounds) t [] refl
+      go (v ∷ us) e = at (eqb v u) refl
+        where
+          at : (b : Bool) → eqb v u ≡ b → IsDue (cond b (f.so_far (home s u)) [])
+          at false no_ = due_none s (home s u) (asked_of s (home s u) f.rounds) t [] refl
+          at true here = (old.moving (home s u)).due u us t (e ∙ ap (λ w. w ∷ us) (eqb-true v u here)) is.transfer
 
   pub marked_serves : Serves s (given_back s f back)
   marked_serves = back_serves s f back (returns s f old u t (marked_at_home s f.history u is.others old.legal is.first) is.transfer (Fault (errno_of why)) false (replies_had s f u)
@@ -163,7 +178,7 @@ clear_mark (Finished code) a b = absurd (true≢false b)
 module _ (s : Scene) (f : Progress) (old : Serves s f) (e u : ℕ) (t : Transfer) (n : ℕ) (code : Code) (near : e < ends_of s) (unmarked : marked_of s f.history ≡ []) (at : IsServed s f e u t)
     (goes : GoesTo s f e t n (Ended code)) where
   abbrev done : Giveback
-  done = round_of s f u code true t (had_after s f e n)
+  done = round_of s f u code true t (had_after s f e t n)
 
   here : e ≡ home s u
   here = first_at_home (machine_of s) f.history e u at.others old.legal at.first
@@ -174,18 +189,16 @@ module _ (s : Scene) (f : Progress) (old : Serves s f) (e u : ℕ) (t : Transfer
   is_first_here : is_first u (pending_of (machine_of s) f.history (home s u)) ≡ true
   is_first_here = ap (is_first u) first_here ∙ eq-eqb u u refl
 
-  ended_replies : AreFirst (script_of s (home s u)) (replies_in (rounds_at s (home s u) f.rounds) ++ (had_after s f e n ++ left s f done))
-  ended_replies =
-      let spent : had_after s f e n ++ left s f done ≡ had_after s f e n = ap (λ b. had_after s f e n ++ cond b [] (f.so_far (home s u))) is_first_here ∙ append-nil (had_after s f e n) in
-      subst (λ d. AreFirst (script_of s d) (replies_in (rounds_at s d f.rounds) ++ (had_after s f e n ++ left s f done))) here
-      (subst (λ l. AreFirst (script_of s e) (replies_in (rounds_at s e f.rounds) ++ l)) (sym spent) (longer_replies s f old e u at.others t n at.first at.transfer goes.whole))
+  ended_replies : had_after s f e t n ≡ next_due s (home s u) (asked_of s (home s u) f.rounds) (asked_in s done)
+  ended_replies = subst (λ (d : ℕ). had_after s f e t n ≡ next_due s d (asked_of s d f.rounds) (asks s d t (length (had_after s f e t n)))) here
+      (longer_replies s f old e u at.others t n at.first at.transfer goes.whole)
 
   pub ended_serves : Serves s (given_back s f done)
-  ended_serves = back_serves s f done (returns s f old u t (once u _ at.others first_here) at.transfer code true (had_after s f e n)
+  ended_serves = back_serves s f done (returns s f old u t (once u _ at.others first_here) at.transfer code true (had_after s f e t n)
       ((at.others, first_here), clear_mark (state_of f.history u).mark (first_unmarked s f.history e u at.others near unmarked at.first) (old.calm u).mark)
       record {
-        state = λ _. subst (λ d. moved_state (shape_at s d) t (had_after s f e n) ≡ Ended code) here goes.state;
-        whole = subst (λ d. IsWhole (shape_at s d) t (had_after s f e n)) here goes.whole;
+        state = λ _. subst (λ d. moved_state (shape_at s d) t (had_after s f e t n) ≡ Ended code) here goes.state;
+        whole = subst (λ d. IsWhole (shape_at s d) t (had_after s f e t n)) here goes.whole;
       }
       (λ _. is_first_here) ended_replies) old
 
@@ -202,7 +215,7 @@ module _ (s : Scene) where
       let same = passed s (with_takes s f) m e passes in
       turned_on f (with_takes s f) _ (takes_turned s f) (turned_on (with_takes s f) m _
       record { parts = λ p off. ap (λ h. part_of h p) same.history; doings = same.doings; down = same.down }
-      (back_turned s m (round_of s m u code true t (had_after s m e n))))
+      (back_turned s m (round_of s m u code true t (had_after s m e t n))))
 
   pub idle_serves : (f e : Progress) → IsIdle s f e → Serves s f → Serves s e
   idle_serves f e idle old = passes_serve s (with_takes s f) e (ends_of s) idle.passed (takes_serve s f old)

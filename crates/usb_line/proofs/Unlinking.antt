@@ -1,5 +1,5 @@
 -- The first unlinked URB comes back.
-use Rattle.std.proofs.Common.{ℕ, zero, suc, ◌≡◌, ◌+◌, ◌<◌, Bool, true, false, cond, eqb, Some, None, List, [], ◌∷◌, length, filter, refl, sym, ap, ◌∙◌, subst, arith, ne_eqb, true≢false}
+use Rattle.std.proofs.Common.{ℕ, zero, suc, ◌≡◌, ◌<◌, Bool, true, false, cond, eqb, Some, None, List, [], ◌∷◌, ◌++◌, length, filter, refl, sym, ap, ◌∙◌, subst, arith, eqb-true, ne_eqb, true≢false}
 use Rattle.std.specs.Prelude.{slice_get}
 use mathlib.Core.Logic.{dite}
 use native.Mathlib.Decide.{ℕ_discrete, dec_lt}
@@ -11,29 +11,35 @@ use Rattle.usb_machine.specs.declared.state.Mark.TheVariants.{Clear, Unlinked, F
 use Rattle.usb_machine.specs.declared.transfer.Transfer.{Transfer}
 use Rattle.usb_machine.specs.declared.entry.Entry.{Entry}
 use Rattle.usb_machine.specs.State.{is_clear, status_of}
+use Rattle.usb_machine.specs.Shapes.{HasWindow, Accepts}
 use Rattle.usb_machine.specs.History.{state_of, pending_of}
 use Rattle.usb_machine.specs.Legal.{times}
 use Rattle.usb_machine.proofs.Rooms.{pending_is_queued, queued_has_home}
 use Rattle.usb_xfer.specs.Replies.{Reply}
+use Rattle.usb_xfer.specs.Moved.{moved}
+use Rattle.usb_class.proofs.Facts.{unlinked_rests}
 use Rattle.usb_scene.specs.declared.scene.Scene.{Scene}
 use Rattle.usb_line.specs.declared.run.UrbRow.{UrbRow}
 use Rattle.usb_line.specs.declared.run.LineRun.{LineRun}
-use Rattle.usb_prepare.specs.Ends.{ends_of}
+use Rattle.usb_prepare.specs.Ends.{ends_of, shape_at}
 use Rattle.usb_prepare.specs.Layout.{home}
-use Rattle.usb_line.specs.Prepared.{machine_of}
-use Rattle.usb_line.specs.Run.{Giveback, is_first}
-use Rattle.usb_line.specs.Line.{Progress, is_unlinked, marked_below, marked_of, replies_used, replies_had, round_of, given_back}
-use Rattle.usb_line.specs.Shows.{ShowsDevices, Shows, turns_left}
+use Rattle.usb_line.specs.Prepared.{machine_of, owner_of}
+use Rattle.usb_line.specs.Run.{Giveback, is_first, asked_of, resent}
+use Rattle.usb_line.specs.Line.{Progress, asks, is_unlinked, marked_below, marked_of, replies_had, round_of, given_back}
+use Rattle.usb_line.specs.Shows.{asked_now, ShowsDevices, Shows, turns_left}
 use Rattle.usb_line.specs.Back.{MayGive, GaveBack}
 use Rattle.usb_line.specs.Turned.{TakesOut, GaveUnlinked}
 use Rattle.usb_line.proofs.MayFollow.{once}
 use Rattle.usb_line.proofs.Marked.{times-append, unlinked, marked_at_home}
 use Rattle.usb_line.proofs.Turns.{outcome_gated}
-use Rattle.usb_line.proofs.Backs.{used_own, used_else}
+use Rattle.usb_line.proofs.Asked.{asked_first}
+use Rattle.usb_line.proofs.Backs.{asked_taken, asked_kept, asked_others}
 use Rattle.usb_line.proofs.Lookups.{set_read}
 use Rattle.usb_line.proofs.Pendings.{IsHeld, held_transfer, same_urbs}
 use Rattle.usb_line.proofs.Scanning.{within}
 use Rattle.usb_line.proofs.Returned.{shows_returned, falls_returned}
+use Rattle.usb_line.proofs.Falling.{all_left}
+use Rattle.usb_line.proofs.Resending.{moved_fits}
 use Rattle.usb_line.proofs.Devices.{devices_same}
 
 -- who is among those that pass a test passes it
@@ -62,10 +68,10 @@ pub first_is : (us : List ℕ) (u : ℕ) → slice_get us 0 ≡ Some u → (othe
 first_is [] u is = cc
 first_is (v ∷ us) u is = let same : v ≡ u = cc in (us, ap (λ w. w ∷ us) same)
 
--- the replies are either told or kept
-told_or_kept : (b : Bool) (l : List Reply) → length (cond b l []) + length (cond b [] l) ≡ length l
-told_or_kept true l = omega arith
-told_or_kept false l = omega arith
+-- who is first begins the list
+first_one : (u : ℕ) (us : List ℕ) → is_first u us ≡ true → (others : List ℕ) × (us ≡ u ∷ others)
+first_one u [] is = absurd (true≢false (sym is))
+first_one u (v ∷ us) is = (us, ap (λ w. w ∷ us) (eqb-true v u is))
 
 module _ (s : Scene) (f : Progress) (run mid new : LineRun) (old : Shows s f run) (u : ℕ) (t : Transfer) (out : TakesOut run mid u (Some t)) (back : GaveBack mid new u None t)
     (first : slice_get (marked_of s f.history) 0 ≡ Some u) where
@@ -90,6 +96,9 @@ module _ (s : Scene) (f : Progress) (run mid new : LineRun) (old : Shows s f run
   among : 0 < times u (pending_of (machine_of s) h (home s u))
   among = marked_at_home s h u others old.stands.legal is
 
+  fits : HasWindow (resent s r) × Accepts (slice_get (machine_of s).layout.shapes (home s u)) (resent s r)
+  fits = moved_fits (owner_of s u) (slice_get (machine_of s).layout.shapes (home s u)) (shape_at s (home s u)) has.moving.start (replies_had s f u) (Fault (errno_of why.0)) has.taken has.moving.apt.bare has.sent_window
+
   may : MayGive s h r u None
   may = record {
     can = record {
@@ -97,8 +106,10 @@ module _ (s : Scene) (f : Progress) (run mid new : LineRun) (old : Shows s f run
       has = queued_has_home (machine_of s) u h old.stands.legal has.queued;
       window = has.sent_window;
       taken = has.taken;
+      goes = fits.0;
+      fits = fits.1;
       settled = (ap is_clear why.1, ap status_of (sym why.1));
-      gated = outcome_gated s f u (Fault (errno_of why.0)) false;
+      gated = outcome_gated s f u (Fault (errno_of why.0)) false (moved (shape_at s (home s u)) has.moving.start (replies_had s f u));
     };
     at = refl;
     by = refl;
@@ -111,16 +122,22 @@ module _ (s : Scene) (f : Progress) (run mid new : LineRun) (old : Shows s f run
   there : slice_get run.ends.items (home s u) ≡ Some back.end
   there = (λ i. slice_get (sym out.same_ends i).items (sym row_home i)) ∙ back.there
 
-  used : replies_used s (given_back s f r) (home s u) ≡ replies_used s f (home s u)
-  used = used_own s f r ∙ (let kept = told_or_kept (is_first u (pending_of (machine_of s) h (home s u))) (f.so_far (home s u)) in omega arith)
+  -- its endpoint was asked no more
+  asked_here : (b : Bool) → is_first u (pending_of (machine_of s) h (home s u)) ≡ b → asked_now s (given_back s f r) (home s u) ≡ asked_now s f (home s u)
+  asked_here true is =
+      let one = first_one u (pending_of (machine_of s) h (home s u)) is in
+      let had : replies_had s f u ≡ f.so_far (home s u) = ap (λ b. cond b (f.so_far (home s u)) []) is in
+      asked_taken s f r is ∙ (ap (λ (l : List Reply). asked_of s (home s u) f.rounds ++ asks s (home s u) has.moving.start (length l)) had
+      ∙ sym (asked_first s f (home s u) u one.0 has.moving.start one.1 has.moving.sent))
+  asked_here false off = asked_kept s f r off (ap (λ b. cond b (f.so_far (home s u)) []) off) (old.unmoved (home s u))
 
-  used_all : (d : ℕ) → replies_used s (given_back s f r) d ≡ replies_used s f d
-  used_all d = dite (ℕ_discrete (home s u) d)
-      (λ is. ap (replies_used s (given_back s f r)) (sym is) ∙ (used ∙ ap (replies_used s f) is))
-      (λ off. used_else s f r d off)
+  asked_all : (d : ℕ) → asked_now s (given_back s f r) d ≡ asked_now s f d
+  asked_all d = dite (ℕ_discrete (home s u) d)
+      (λ is. ap (asked_now s (given_back s f r)) (sym is) ∙ (asked_here (is_first u (pending_of (machine_of s) h (home s u))) refl ∙ ap (asked_now s f) is))
+      (λ off. asked_others s f r old.stands.legal old.unmoved d off)
 
   devices : ShowsDevices s (given_back s f r) mid.devices.items
-  devices = subst (λ l. ShowsDevices s (given_back s f r) l.items) (sym out.same_devices) (devices_same s f (given_back s f r) run.devices.items used_all old.devices)
+  devices = subst (λ l. ShowsDevices s (given_back s f r) l.items) (sym out.same_devices) (devices_same s f (given_back s f r) run.devices.items asked_all old.devices)
 
   pub gave_unlinked : GaveUnlinked s f new
   gave_unlinked = record {
@@ -129,12 +146,13 @@ module _ (s : Scene) (f : Progress) (run mid new : LineRun) (old : Shows s f run
     start = has.moving.start;
     is = record { others = others; first = is; mark = why.1; transfer = has.moving.sent };
     shows = shows_returned s f run old u out.row out.at back.end there mid new out.rows out.same_ends out.same None t back (Fault (errno_of why.0)) false has.moving.start (replies_had s f u)
-        may has.moving.moving has.moving.own devices;
+        may has.moving.moving has.moving.apt devices;
   }
 
   pub unlinked_falls : turns_left new < turns_left run
   unlinked_falls = falls_returned s f run old u out.row out.at back.end there mid new out.rows out.same_ends out.same None t back (Fault (errno_of why.0)) false has.moving.start (replies_had s f u)
-      may has.moving.moving t out.is
+      may has.moving.moving t out.is (let same : all_left mid.devices.items ≡ all_left run.devices.items = ap (λ l. all_left l.items) out.same_devices in omega arith)
+      (λ o m own again. absurd (true≢false (sym again ∙ unlinked_rests o.driver o.role why.0 m)))
 
 -- the first unlinked URB is queued, and one of the run's
 pub unlinked_near : (s : Scene) (f : Progress) (run : LineRun) → Shows s f run → (u : ℕ) → slice_get (marked_of s f.history) 0 ≡ Some u → (u < length run.urbs.items) × ((state_of f.history u).queued ≡ true)

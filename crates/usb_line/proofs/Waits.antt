@@ -15,9 +15,10 @@ woken_serves s f old = record {
   gives = old.gives;
   firsts = old.firsts;
   replies = old.replies;
-  moving = λ e. record { none = (old.moving e).none; whole = (old.moving e).whole };
+  moving = λ e. record { none = (old.moving e).none; whole = (old.moving e).whole; due = (old.moving e).due };
   moves = old.moves;
   handled = old.handled;
+  bare = old.bare;
 }
 
 pub woken_turned : (f : Progress) → IsTurned f (woken f)

@@ -1,6 +1,8 @@
 pub mod Script
 pub mod Prepared
+pub mod Due
 pub mod Run
+pub mod Reads
 pub mod Line
 pub mod Between
 pub mod Given

@@ -1,5 +1,5 @@
 -- The run in line order: calls one after another, each with the turns that it waits for, and then the close.
-use Rattle.std.specs.Prelude.{ℕ, zero, suc, ◌≡◌, ◌+◌, ◌<◌, ◌==◌, ◌&&◌, not, Bool, true, false, if◌then◌else◌, ◌⊎◌, List, [], ◌∷◌, ◌++◌, length, map, filter, Option, Some, None}
+use Rattle.std.specs.Prelude.{ℕ, zero, suc, ◌≡◌, ◌<◌, ◌==◌, ◌&&◌, not, Bool, true, false, if◌then◌else◌, ◌⊎◌, List, [], ◌∷◌, ◌++◌, length, map, filter, replicate, Option, Some, None}
 use Rattle.usb_types.specs.declared.errno.Errno.{Errno}
 use Rattle.usb_types.specs.declared.errno.Errno.TheVariants.{ENODEV, ESHUTDOWN}
 use Rattle.usb_types.specs.declared.errno.Code.{Code}
@@ -19,10 +19,10 @@ use Rattle.usb_machine.specs.declared.transfer.Transfer.{Transfer}
 use Rattle.usb_machine.specs.State.{refusal, unlinking}
 use Rattle.usb_machine.specs.History.{state_of, line_of, pending_of, sent_of}
 use Rattle.usb_machine.specs.Calls.{entry, plain_entry, mark_entry, claim_entries, unblock_entries, marks_of}
-use Rattle.usb_xfer.specs.Replies.{Reply}
+use Rattle.usb_xfer.specs.Replies.{Reply, Question}
 use Rattle.usb_xfer.specs.declared.packet.Step.{Step}
 use Rattle.usb_xfer.specs.declared.packet.Step.TheVariants.{More, Waiting, Ended}
-use Rattle.usb_xfer.specs.Moved.{moved_state, IsWhole}
+use Rattle.usb_xfer.specs.Moved.{moved, moved_state, IsWhole, question_of}
 use Rattle.usb_scene.specs.declared.scene.Scene.{Scene}
 use Rattle.usb_scene.specs.declared.scene.Call.{Call}
 use Rattle.usb_line.specs.declared.made.Deed.{Deed}
@@ -31,11 +31,11 @@ use Rattle.usb_line.specs.declared.made.CallAnswer.{CallAnswer}
 use Rattle.usb_line.specs.declared.made.CallAnswer.TheVariants as told
 use Rattle.usb_line.specs.declared.made.Outcome.{Outcome}
 use Rattle.usb_line.specs.declared.made.Outcome.TheVariants as outcome
-use Rattle.usb_line.specs.Script.{replies_from}
 use Rattle.usb_prepare.specs.Ends.{ends_of, shape_at}
 use Rattle.usb_prepare.specs.Layout.{home}
 use Rattle.usb_line.specs.Prepared.{machine_of, script_of, submit_fault, deed_of, pass_of, main_pass, calls_of}
-use Rattle.usb_line.specs.Run.{urbs_of, Doing, call_entries, down_after, Giveback, given_entries, giveback_entries, acts_again, rounds_at, replies_in, is_first, seen_quiet}
+use Rattle.usb_line.specs.Run.{urbs_of, Doing, call_entries, down_after, Giveback, given_entries, giveback_entries, acts_again, rounds_at, replies_in, is_first, opening, seen_quiet, asked_of}
+use Rattle.usb_line.specs.Due.{next_due}
 use Rattle.std.specs.List.{flat_map}
 
 -- how far a run is: its history, its calls, its givebacks, for each endpoint the replies that its first pending transfer
@@ -54,13 +54,21 @@ at_start = record { history = []; doings = []; rounds = []; so_far = λ e. []; a
 abbrev pub adds : Progress → List Entry → Progress
 adds f xs = record f { history = f.history ++ xs }
 
+-- the drivers' reads are submitted
+abbrev pub begun : Scene → Progress
+begun s = adds at_start (opening s)
+
 -- a function with another value at e
 abbrev pub with_at : {X : Type 0} → ℕ → X → (ℕ → X) → ℕ → X
 with_at e x f d = if d == e then x else f d
 
--- how many replies an endpoint has given
-abbrev pub replies_used : Scene → Progress → ℕ → ℕ
-replies_used s f e = length (replies_in (rounds_at s e f.rounds)) + length (f.so_far e)
+-- a transfer asks so often at e
+abbrev pub asks : Scene → ℕ → Transfer → ℕ → List Question
+asks s e t n = replicate n (question_of (shape_at s e) t)
+
+-- what e was asked by its givebacks, and then by this transfer, which its replies so far are of
+abbrev pub asked_so_far : Scene → Progress → ℕ → Transfer → List Question
+asked_so_far s f e t = asked_of s e f.rounds ++ asks s e t (length (f.so_far e))
 
 -- the server takes all that stands in the line of e, and in the lines of the endpoints below n
 abbrev pub takes : ℕ → List ℕ → List Entry
@@ -87,16 +95,16 @@ marked_below s h (suc e) = marked_below s h e ++ filter (λ u. is_unlinked (stat
 abbrev pub marked_of : Scene → List Entry → List ℕ
 marked_of s h = marked_below s h (ends_of s)
 
--- the replies that the first pending transfer of e has had when n more came
-abbrev pub had_after : Scene → Progress → ℕ → ℕ → List Reply
-had_after s f e n = f.so_far e ++ replies_from (script_of s e) (replies_used s f e) n
+-- the replies that the first pending transfer of e, this one, has had when n more came
+abbrev pub had_after : Scene → Progress → ℕ → Transfer → ℕ → List Reply
+had_after s f e t n = f.so_far e ++ next_due s e (asked_so_far s f e t) (asks s e t n)
 
 -- the next n replies of endpoint e are the first after which the transfer does not go on
 pub record GoesTo (s : Scene) (f : Progress) (e : ℕ) (t : Transfer) (n : ℕ) (step : Step) : Type 0 where
   pub some : 0 < n
-  pub before : (k : ℕ) → 0 < k → k < n → moved_state (shape_at s e) t (had_after s f e k) ≡ More
-  pub state : moved_state (shape_at s e) t (had_after s f e n) ≡ step
-  pub whole : IsWhole (shape_at s e) t (had_after s f e n)
+  pub before : (k : ℕ) → 0 < k → k < n → moved_state (shape_at s e) t (had_after s f e t k) ≡ More
+  pub state : moved_state (shape_at s e) t (had_after s f e t n) ≡ step
+  pub whole : IsWhole (shape_at s e) t (had_after s f e t n)
 
 -- the URB that is first pending at e, with the transfer that it was submitted with
 pub record IsServed (s : Scene) (f : Progress) (e u : ℕ) (t : Transfer) : Type 0 where
@@ -111,14 +119,14 @@ pub record IsMarked (s : Scene) (f : Progress) (u : ℕ) (why : Why) (t : Transf
   pub mark : (state_of f.history u).mark ≡ Unlinked why
   pub transfer : sent_of f.history u ≡ Some t
 
--- the handler of u submits again as often as the scene says, and is answered by the gate
-abbrev pub outcome_at : Scene → Progress → ℕ → Code → Bool → Outcome
-outcome_at s f u status finished =
-    if acts_again s f.rounds u then outcome.Again (refusal (state_of (f.history ++ given_entries u status finished) u)) else outcome.Rest
+-- the handler of u submits this transfer again where the scene or its driver says so, and is answered by the gate
+abbrev pub outcome_at : Scene → Progress → ℕ → Code → Bool → Transfer → Outcome
+outcome_at s f u status finished t =
+    if acts_again s f.rounds u status t then outcome.Again (refusal (state_of (f.history ++ given_entries u status finished) u)) else outcome.Rest
 
 abbrev pub round_of : Scene → Progress → ℕ → Code → Bool → Transfer → List Reply → Giveback
 round_of s f u status finished t replies =
-    record { urb = u; status = status; finished = finished; sent = t; replies = replies; outcome = outcome_at s f u status finished }
+    record { urb = u; status = status; finished = finished; sent = t; replies = replies; outcome = outcome_at s f u status finished (moved (shape_at s (home s u)) t replies) }
 
 -- a giveback of the first pending URB of its endpoint leaves no replies for the next
 abbrev pub given_back : Scene → Progress → Giveback → Progress
@@ -133,15 +141,15 @@ abbrev pub replies_had : Scene → Progress → ℕ → List Reply
 replies_had s f u = if is_first u (pending_of (machine_of s) f.history (home s u)) then f.so_far (home s u) else []
 
 -- the first pending transfer of e waits after n more replies, and the endpoint sleeps
-abbrev pub waits : Scene → Progress → ℕ → ℕ → Progress
-waits s f e n = record f { so_far = with_at e (had_after s f e n) f.so_far; asleep = with_at e true f.asleep }
+abbrev pub waits : Scene → Progress → ℕ → Transfer → ℕ → Progress
+waits s f e t n = record f { so_far = with_at e (had_after s f e t n) f.so_far; asleep = with_at e true f.asleep }
 
 -- the endpoints below n were gone through, and each slept, had nothing pending, or waits now
 pub data Passes (s : Scene) (f : Progress) : ℕ → Progress → Type 0 where
   none : Passes s f 0 f
   over : (e : ℕ) (m : Progress) → Passes s f e m → (m.asleep e ≡ true) ⊎ (pending_of (machine_of s) m.history e ≡ []) → Passes s f (suc e) m
   stops : (e : ℕ) (m : Progress) (u : ℕ) (t : Transfer) (n : ℕ) → Passes s f e m → m.asleep e ≡ false → IsServed s m e u t → GoesTo s m e t n Waiting
-      → Passes s f (suc e) (waits s m e n)
+      → Passes s f (suc e) (waits s m e t n)
 
 -- a turn that gives one URB back, with its handler: the first that was unlinked, and where none was, the first whose
 -- transfer ends
@@ -150,7 +158,7 @@ pub data Gives (s : Scene) (f : Progress) : Progress → Type 0 where
       → Gives s f (given_back s (with_takes s f) (round_of s (with_takes s f) u (Fault (errno_of why)) false t (replies_had s (with_takes s f) u)))
   ended : (e : ℕ) (m : Progress) (u : ℕ) (t : Transfer) (n : ℕ) (code : Code) → marked_of s (with_takes s f).history ≡ [] → Passes s (with_takes s f) e m → e < ends_of s
       → m.asleep e ≡ false → IsServed s m e u t → GoesTo s m e t n (Ended code)
-      → Gives s f (given_back s m (round_of s m u code true t (had_after s m e n)))
+      → Gives s f (given_back s m (round_of s m u code true t (had_after s m e t n)))
 
 -- a turn that gives nothing back
 pub record IsIdle (s : Scene) (f e : Progress) : Type 0 where
@@ -243,7 +251,7 @@ pub data Makes (s : Scene) (f : Progress) (i : ℕ) (c : Call) : Doing → Progr
 
 -- the run after some calls
 pub data IsLine (s : Scene) : Progress → Type 0 where
-  start : IsLine s at_start
+  start : IsLine s (begun s)
   call : (f m : Progress) (i : ℕ) (c : Call) (d : Doing) → IsLine s f → i < length s.threads → Makes s f i c d m → IsLine s (with_doing s m d)
 
 -- main kills each URB in rising number

@@ -8,7 +8,7 @@ use Rattle.usb_line.specs.declared.run.EndReceived.{EndReceived}
 use Rattle.usb_line.specs.declared.line.LineOutcome.{LineOutcome}
 use Rattle.usb_prepare.specs.Ends.{ends_of, shape_at}
 use Rattle.usb_prepare.specs.Below.{below}
-use Rattle.usb_line.specs.Run.{Doing, Giveback}
+use Rattle.usb_line.specs.Run.{Doing, Giveback, drivers_told}
 use Rattle.usb_line.specs.Given.{given_of, acked_at}
 use Rattle.usb_line.specs.Line.{Progress, IsLineRun}
 
@@ -34,4 +34,5 @@ pub record IsOutcome (s : Scene) (o : LineOutcome) : Type 0 where
   pub line : IsLineRun s far
   pub made : o.made ≡ map made_of far.doings
   pub given : o.given ≡ map (given_of s) far.rounds
+  pub told : o.told ≡ drivers_told s far.rounds
   pub ends : o.ends ≡ map (end_of s far.rounds) (below (ends_of s))

@@ -1,13 +1,19 @@
 -- What the run of a scene is made on: the machine of its host with the passes, the script of each endpoint, what its own
 -- URBs submit, and what its calls do.
-use Rattle.std.specs.Prelude.{ℕ, ◌+◌, Bool, false, ◌==◌, if◌then◌else◌, codes, List, [], ◌∷◌, ◌++◌, length, map, slice_get, replicate, Option, Some, None}
+use Rattle.std.specs.Prelude.{ℕ, ◌+◌, Bool, false, ◌==◌, if◌then◌else◌, codes, List, [], ◌∷◌, ◌++◌, length, map, count_by, slice_get, find, replicate, Option, Some, None, option_map, option_and_then}
+use Rattle.std.specs.Option.{option_map_or}
 use Rattle.std.specs.Str.{bytes_eq}
 use Rattle.usb_types.specs.declared.errno.Errno.{Errno}
+use Rattle.usb_types.specs.declared.urb.UrbId.{UrbId}
 use Rattle.usb_machine.specs.declared.entry.TheConstants.{SERVER, HUB}
 use Rattle.usb_machine.specs.declared.transfer.Transfer.{Transfer}
 use Rattle.usb_machine.specs.Shapes.{shape_fault}
 use Rattle.usb_machine.specs.History.{Machine}
 use Rattle.usb_device.specs.Items.{Script, last_at, script_at}
+use Rattle.usb_bind.specs.declared.bound.Bound.{Bound}
+use Rattle.usb_bind.specs.Board.{is_binding_of}
+use Rattle.usb_class.specs.Roles.{role_in, read_size, has_number}
+use Rattle.usb_class.specs.Calls.{urb_for, setup_for}
 use Rattle.usb_scene.specs.declared.scene.Scene.{Scene}
 use Rattle.usb_scene.specs.declared.scene.SceneDevice.{SceneDevice}
 use Rattle.usb_scene.specs.declared.scene.SceneUrb.{SceneUrb}
@@ -15,8 +21,11 @@ use Rattle.usb_scene.specs.declared.scene.SceneThread.{SceneThread}
 use Rattle.usb_scene.specs.declared.scene.Call.{Call}
 use Rattle.usb_scene.specs.declared.scene.Target.{Target}
 use Rattle.usb_scene.specs.declared.scene.Target.TheVariants as target
+use Rattle.usb_prepare.specs.Below.{below}
 use Rattle.usb_prepare.specs.Ends.{shape_at}
+use Rattle.usb_prepare.specs.Prepared.{bindings_of}
 use Rattle.usb_prepare.specs.Layout.{layout_of, home, role_urb}
+use Rattle.usb_line.specs.declared.owner.Owner.{Owner}
 use Rattle.usb_line.specs.declared.made.Deed.{Deed}
 use Rattle.usb_line.specs.declared.made.Deed.TheVariants as deed
 
@@ -60,20 +69,57 @@ abbrev pub again_in : Option SceneUrb → ℕ
 again_in None = 0
 again_in (Some u) = u.again
 
--- how often the handler of URB u submits its transfer again: one of the scene's own as often as the scene says, and one of a
--- driver never
+-- how often the handler of URB u submits its transfer again, by the scene: what a driver does with its own the scene does not say
 abbrev pub again_of : Scene → ℕ → ℕ
 again_of s u = again_in (slice_get s.urbs u)
+
+-- the first of these bindings that has URB u, by its place, with what it has it for
+abbrev pub owner_from : ℕ → List Bound → ℕ → Option Owner
+owner_from k [] u = None
+owner_from k (b ∷ bindings) u =
+    option_map_or (λ role. Some (record { place = k; driver = b.driver; role = role })) (role_in u b) (owner_from (k + 1) bindings u)
+
+-- the driver that has URB u; the scene's own URBs have none
+unfoldable pub owner_of : Scene → ℕ → Option Owner
+owner_of s u = owner_from 0 (bindings_of s) u
+
+-- whether transfers of URB u have numbers of the drivers' own
+abbrev pub is_numbered_by : Option Owner → Bool
+is_numbered_by o = option_map_or (λ (o : Owner). has_number o.driver o.role) o false
+
+abbrev pub is_numbered : Scene → ℕ → Bool
+is_numbered s u = is_numbered_by (owner_of s u)
+
+-- these numbers rise from two millions on, in the order of the URBs
+abbrev pub number_of : Scene → ℕ → ℕ
+number_of s u = 2000000 + count_by (is_numbered s) (below u)
+
+-- so many bytes to be read
+abbrev pub reading : ℕ → ℕ → Transfer
+reading number size =
+    record { setup = None; buf = replicate size 0; from = 0; len = size; short_not_ok = false; actual = 0; number = number }
+
+-- the read that a driver keeps with URB u, if it does
+abbrev pub read_by : Option Owner → ℕ → Option Transfer
+read_by o number = option_map (reading number) (option_and_then (λ (o : Owner). read_size o.driver o.role) o)
+
+abbrev pub read_of : Scene → ℕ → Option Transfer
+read_of s u = read_by (owner_of s u) (number_of s u)
 
 -- the data of a submit, and else `len` zero bytes
 abbrev pub buffer_of : ℕ → Option (List ℕ) → List ℕ
 buffer_of len None = replicate len 0
 buffer_of len (Some bytes) = bytes
 
+-- the setup packet that a call sends: the one that it has for an interface, or else the one that it says
+abbrev pub setup_by : ℕ → Target → Option (List ℕ) → Option (List ℕ)
+setup_by code (target.Interface device interface) said = setup_for code interface
+setup_by code _ said = said
+
 -- the transfer that a submit of URB u sends. Its window is its whole buffer, and its number the line's
 abbrev pub fresh : Scene → ℕ → Call → Transfer
 fresh s u c = let urb = slice_get s.urbs u in let buf = buffer_of (len_in urb) c.bytes in
-    record { setup = c.setup; buf = buf; from = 0; len = length buf; short_not_ok = short_in urb; actual = 0; number = c.line }
+    record { setup = setup_by c.code c.target c.setup; buf = buf; from = 0; len = length buf; short_not_ok = short_in urb; actual = 0; number = c.line }
 
 -- the fault of its shape, if a submit has one
 abbrev pub submit_fault : Scene → ℕ → Call → Option Errno
@@ -100,10 +146,21 @@ abbrev pub deed_on_any : ℕ → Option ℕ → Deed
 deed_on_any code None = deed.Absent
 deed_on_any code (Some u) = deed_on code u
 
+-- what it does on an interface: it submits an URB of the driver, where there is one
+abbrev pub deed_called : Option ℕ → Deed
+deed_called None = deed.Absent
+deed_called (Some u) = deed.Submit u
+
+-- the URB that a call on an interface submits
+abbrev pub called_urb : Scene → ℕ → ℕ → ℕ → Option ℕ
+called_urb s code device interface =
+    option_map (λ (u : UrbId). u.0) (option_and_then (urb_for code) (find (is_binding_of device interface) (bindings_of s)))
+
 abbrev pub deed_by : Scene → ℕ → Target → Deed
 deed_by s code target.Nothing = deed_alone code
 deed_by s code (target.Urb u) = deed_on code u
 deed_by s code (target.Role device interface role) = deed_on_any code (role_urb s device interface role)
+deed_by s code (target.Interface device interface) = deed_called (called_urb s code device interface)
 deed_by s code (target.Anchor a) = deed.Other
 deed_by s code (target.Device d) = deed.Other
 

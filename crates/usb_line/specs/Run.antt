@@ -1,10 +1,12 @@
 -- What a history has to do with a scene, in whatever order its entries came.
-use Rattle.std.specs.Prelude.{ℕ, ◌≡◌, ◌≢◌, ◌<◌, ◌==◌, nat_lt, Bool, true, false, not, if◌then◌else◌, List, [], ◌∷◌, ◌++◌, length, map, filter, count_by, slice_get, Option, Some, None}
+use Rattle.std.specs.Prelude.{ℕ, ◌+◌, ◌≡◌, ◌≢◌, ◌<◌, ◌==◌, nat_lt, Bool, true, false, not, if◌then◌else◌, List, [], ◌∷◌, ◌++◌, length, map, filter, count_by, slice_get, filter_map, Option, Some, None, option_and_then, replicate}
 use Rattle.std.specs.List.{flat_map, All}
 use Rattle.usb_types.specs.declared.errno.Errno.{Errno}
 use Rattle.usb_types.specs.declared.errno.Errno.TheVariants.{ENODEV, ESHUTDOWN}
 use Rattle.usb_types.specs.declared.errno.Code.{Code}
-use Rattle.usb_types.specs.declared.errno.Code.TheVariants.{Fault}
+use Rattle.usb_types.specs.declared.errno.Code.TheVariants.{Zero, Fault}
+use Rattle.usb_types.specs.declared.urb.Action.{Action}
+use Rattle.usb_types.specs.declared.urb.Action.TheVariants as action
 use Rattle.usb_types.specs.declared.urb.Flag.TheVariants as flag
 use Rattle.usb_machine.specs.declared.entry.TheConstants.{SERVER}
 use Rattle.usb_machine.specs.declared.event.Event.{Event}
@@ -13,28 +15,36 @@ use Rattle.usb_machine.specs.declared.event.Answer.{Answer}
 use Rattle.usb_machine.specs.declared.event.Answer.TheVariants.{Nothing, Code as Status, Truth}
 use Rattle.usb_machine.specs.declared.transfer.Transfer.{Transfer}
 use Rattle.usb_machine.specs.declared.entry.Entry.{Entry}
+use Rattle.usb_machine.specs.Shapes.{shape_fault}
 use Rattle.usb_machine.specs.State.{is_zero, finishes}
 use Rattle.usb_machine.specs.History.{Machine, Episode, episodes_of, home_of, state_of, line_of, pending_of}
 use Rattle.usb_machine.specs.Parts.{part_of}
 use Rattle.usb_machine.specs.Legal.{IsLegal}
 use Rattle.usb_machine.specs.Calls.{entry, plain_entry, submit_entries, unlink_entries, block_entries, unblock_entries, kill_entries, poison_entries, flush_entries, unflag_entries}
-use Rattle.usb_xfer.specs.Replies.{Reply}
+use Rattle.usb_xfer.specs.Replies.{Reply, Question}
 use Rattle.usb_xfer.specs.declared.packet.Step.TheVariants.{Ended}
-use Rattle.usb_xfer.specs.Moved.{moved, moved_state, IsWhole}
+use Rattle.usb_xfer.specs.Moved.{moved, moved_state, IsWhole, question_of}
+use Rattle.usb_class.specs.Done.{Done}
+use Rattle.usb_class.specs.Handler.{action_of, goes_again, window_by}
+use Rattle.usb_class.specs.Told.{told_of}
+use Rattle.usb_class.specs.declared.class_core.Told.{Told}
+use Rattle.usb_bind.specs.declared.bound.Bound.{Bound}
 use Rattle.usb_scene.specs.declared.scene.Scene.{Scene}
 use Rattle.usb_scene.specs.declared.scene.SceneThread.{SceneThread}
 use Rattle.usb_scene.specs.declared.scene.Call.{Call}
+use Rattle.usb_line.specs.declared.owner.Owner.{Owner}
 use Rattle.usb_line.specs.declared.made.Deed.{Deed}
 use Rattle.usb_line.specs.declared.made.Deed.TheVariants as deed
 use Rattle.usb_line.specs.declared.made.CallAnswer.{CallAnswer}
 use Rattle.usb_line.specs.declared.made.CallAnswer.TheVariants as told
 use Rattle.usb_line.specs.declared.made.Outcome.{Outcome}
 use Rattle.usb_line.specs.declared.made.Outcome.TheVariants as outcome
-use Rattle.usb_line.specs.Script.{replies_from}
 use Rattle.usb_prepare.specs.Below.{below}
 use Rattle.usb_prepare.specs.Ends.{shape_at}
 use Rattle.usb_prepare.specs.Layout.{urb_count, home}
-use Rattle.usb_line.specs.Prepared.{machine_of, script_of, fresh, submit_fault, again_of, deed_of, pass_of, main_pass}
+use Rattle.usb_prepare.specs.Prepared.{bindings_of}
+use Rattle.usb_line.specs.Prepared.{machine_of, script_of, owner_of, read_of, fresh, submit_fault, again_of, deed_of, pass_of, main_pass}
+use Rattle.usb_line.specs.Due.{next_due}
 
 -- all URBs of a scene
 abbrev pub urbs_of : Scene → List ℕ
@@ -129,9 +139,19 @@ pub record Giveback : Type 0 where
 abbrev pub moved_in : Scene → Giveback → Transfer
 moved_in s r = moved (shape_at s (home s r.urb)) r.sent r.replies
 
--- the transfer that is submitted again
+-- what the handler of an URB does with a transfer that came back: what its driver says, and where it is one of the scene's
+-- own, it goes on with the same window while it may
+abbrev pub action_by : Option Owner → Bool → Code → Transfer → Action
+action_by None true status t = action.Again t.from t.len
+action_by None false status t = action.Rest
+action_by (Some o) may status t = action_of o.driver o.role status t
+
+-- the transfer that is submitted again, if it is
+abbrev pub resent_as : Option Owner → Code → Transfer → Transfer
+resent_as o status t = window_by (action_by o true status t) t
+
 abbrev pub resent : Scene → Giveback → Transfer
-resent s r = record (moved_in s r) { actual = 0 }
+resent s r = resent_as (owner_of s r.urb) r.status (moved_in s r)
 
 abbrev pub rest_entry : ℕ → Transfer → Entry
 rest_entry u t = entry SERVER (Rest record { 0 = u } t.number) Nothing (Some t)
@@ -165,19 +185,39 @@ pub record IsGiveback (s : Scene) (r : Giveback) : Type 0 where
 abbrev pub times_back : ℕ → List Giveback → ℕ
 times_back u rounds = count_by (λ r. r.urb == u) rounds
 
--- whether the next handler of URB u submits again: it has not done so as often as the scene says
-abbrev pub acts_again : Scene → List Giveback → ℕ → Bool
-acts_again s before u = nat_lt (times_back u before) (again_of s u)
+-- whether an URB came back fewer times than the scene lets its handler submit again
+abbrev pub may_again : Scene → List Giveback → ℕ → Bool
+may_again s before u = nat_lt (times_back u before) (again_of s u)
+
+-- whether the next handler of URB u submits again a transfer that came back with this status
+abbrev pub acts_again : Scene → List Giveback → ℕ → Code → Transfer → Bool
+acts_again s before u status t = goes_again (action_by (owner_of s u) (may_again s before u) status t)
 
 abbrev pub IsHandled : Bool → Outcome → Type 0
 IsHandled true (outcome.Again code) = Unit {0}
 IsHandled false outcome.Rest = Unit {0}
 IsHandled _ _ = ⊥
 
--- each handler does what the scene says
+-- each handler does what the scene or its driver says
 abbrev pub AreHandled : Scene → List Giveback → List Giveback → Type 0
 AreHandled s before [] = Unit {0}
-AreHandled s before (r ∷ rounds) = IsHandled (acts_again s before r.urb) r.outcome × AreHandled s (before ++ r ∷ []) rounds
+AreHandled s before (r ∷ rounds) = IsHandled (acts_again s before r.urb r.status (moved_in s r)) r.outcome × AreHandled s (before ++ r ∷ []) rounds
+
+-- what the driver of the binding at this place heard of a giveback, and of all in their order
+abbrev pub done_in : Scene → ℕ → Giveback → Option Done
+done_in s k r =
+    option_and_then (λ (o : Owner). if o.place == k then Some (record { role = o.role; status = r.status; transfer = moved_in s r }) else None) (owner_of s r.urb)
+
+abbrev pub done_at : Scene → ℕ → List Giveback → List Done
+done_at s k rounds = filter_map (done_in s k) rounds
+
+-- what the drivers of these bindings tell, of which the first has this place
+abbrev pub told_from : Scene → List Giveback → ℕ → List Bound → List Told
+told_from s rounds k [] = []
+told_from s rounds k (b ∷ bindings) = told_of b.driver (done_at s k rounds) ∷ told_from s rounds (k + 1) bindings
+
+abbrev pub drivers_told : Scene → List Giveback → List Told
+drivers_told s rounds = told_from s rounds 0 (bindings_of s)
 
 -- whether an entry belongs to no giveback: a Take, or a Finish that found a mark
 abbrev pub is_aside : Event → Answer → Bool
@@ -196,6 +236,15 @@ rounds_at s e rounds = filter (λ r. home s r.urb == e) rounds
 abbrev pub replies_in : List Giveback → List Reply
 replies_in rounds = flat_map (λ r. r.replies) rounds
 
+-- what a giveback asked, one question a reply: a control transfer asks the same each time, and the replies to packets go by their
+-- number, so the first one stands for each
+abbrev pub asked_in : Scene → Giveback → List Question
+asked_in s r = replicate (length r.replies) (question_of (shape_at s (home s r.urb)) r.sent)
+
+-- what the givebacks of an endpoint asked
+abbrev pub asked_of : Scene → ℕ → List Giveback → List Question
+asked_of s e rounds = flat_map (asked_in s) (rounds_at s e rounds)
+
 abbrev pub is_first : ℕ → List ℕ → Bool
 is_first u [] = false
 is_first u (v ∷ vs) = v == u
@@ -212,7 +261,19 @@ firsts_after g before (x ∷ xs) = first_given g before x.event ++ firsts_after 
 abbrev pub firsts_of : Machine → List Entry → List Bool
 firsts_of g h = firsts_after g [] h
 
--- main's own entries: it kills each URB, with these answers, and then sees each quiet under a reject
+-- main submits the read that a driver keeps with URB u, where its endpoint takes it
+abbrev pub read_entries_by : Scene → ℕ → Option Transfer → List Entry
+read_entries_by s u None = []
+read_entries_by s u (Some t) = submit_of (shape_fault (shape_at s (home s u)) t) (main_pass s) u t Zero
+
+abbrev pub read_entries : Scene → ℕ → List Entry
+read_entries s u = read_entries_by s u (read_of s u)
+
+-- main's first entries: the drivers' reads, in the order of their URBs
+abbrev pub opening : Scene → List Entry
+opening s = flat_map (read_entries s) (urbs_of s)
+
+-- and its last: it kills each URB, with these answers, and then sees each quiet under a reject
 abbrev pub kills_of : ℕ → List ℕ → List Code → List (Option ℕ) → List Entry
 kills_of p (u ∷ us) (a ∷ answers) (rest ∷ rests) = kill_entries p u a rest ++ kills_of p us answers rests
 kills_of p _ _ _ = []
@@ -223,17 +284,19 @@ seen_quiet p u = plain_entry p (Reject record { 0 = u }) ∷ plain_entry p (Quie
 abbrev pub closing : Scene → List Code → List (Option ℕ) → List Entry
 closing s marks rests = kills_of (main_pass s) (urbs_of s) marks rests ++ flat_map (seen_quiet (main_pass s)) (urbs_of s)
 
--- main closes with these answers, behind all that the threads did
-pub record IsClosed (s : Scene) (h : List Entry) : Type 0 where
+-- main submits the drivers' reads before the threads begin, and closes with these answers behind all that they did
+pub record IsFramed (s : Scene) (h : List Entry) : Type 0 where
   pub marks : List Code
   pub rests : List (Option ℕ)
-  pub before : List Entry
-  pub behind : List Entry
+  pub first : List Entry
+  pub middle : List Entry
+  pub last : List Entry
   pub each : (length marks ≡ urb_count s) × (length rests ≡ urb_count s)
-  pub main : part_of h (main_pass s) ≡ closing s marks rests
-  pub split : h ≡ before ++ behind
-  pub last : part_of before (main_pass s) ≡ []
-  pub silent : (i : ℕ) → i < length s.threads → part_of behind (pass_of s i) ≡ []
+  pub split : h ≡ first ++ (middle ++ last)
+  pub opens : part_of first (main_pass s) ≡ opening s
+  pub between : part_of middle (main_pass s) ≡ []
+  pub closes : part_of last (main_pass s) ≡ closing s marks rests
+  pub silent : (i : ℕ) → i < length s.threads → (part_of first (pass_of s i) ≡ []) × (part_of last (pass_of s i) ≡ [])
 
 -- nothing is left: no URB is queued, no handler runs, and all lists are empty
 pub record IsOver (s : Scene) (h : List Entry) : Type 0 where
@@ -252,7 +315,7 @@ pub record IsRun (s : Scene) (h : List Entry) (doings : List Doing) (rounds : Li
   pub calls : (i : ℕ) (thread : SceneThread) → slice_get s.threads i ≡ Some thread → map (λ d. d.call) (done_by i doings) ≡ thread.calls
   -- a thread's part of the history is the entries of its calls with their answers
   pub threads : (i : ℕ) → i < length s.threads → part_of h (pass_of s i) ≡ flat_map (call_entries s) (done_by i doings)
-  pub closed : IsClosed s h
+  pub framed : IsFramed s h
   -- the server takes and finds marks, and beside this it gives back and handles one URB after another
   pub server : filter (λ x. not (is_aside x.event x.answer)) (part_of h SERVER) ≡ flat_map (giveback_entries s) rounds
   -- no other pass has an entry
@@ -260,7 +323,7 @@ pub record IsRun (s : Scene) (h : List Entry) (doings : List Doing) (rounds : Li
   -- each Give ends the episode of its giveback, and one whose transfer had replies is of a first pending URB
   pub gives : episodes_of h ≡ map episode_of rounds
   pub firsts : (k : ℕ) (r : Giveback) → slice_get rounds k ≡ Some r → 0 < length r.replies → slice_get (firsts_of (machine_of s) h) k ≡ Some true
-  -- the replies of an endpoint's givebacks are the first that its script gives
-  pub replies : (e : ℕ) → let had = replies_in (rounds_at s e rounds) in had ≡ replies_from (script_of s e) 0 (length had)
+  -- the replies of an endpoint's givebacks are those that were due first
+  pub replies : (e : ℕ) → replies_in (rounds_at s e rounds) ≡ next_due s e [] (asked_of s e rounds)
   pub moves : All (IsGiveback s) rounds
   pub handled : AreHandled s [] rounds

@@ -1,5 +1,5 @@
 -- What a submit finds, and what it leaves.
-use Rattle.std.specs.Prelude.{ℕ, ◌≡◌, ◌<◌, List, length, slice_get, slice_set, Some}
+use Rattle.std.specs.Prelude.{ℕ, ◌≡◌, ◌<◌, List, length, slice_get, slice_set, Option, Some}
 use Rattle.usb_types.specs.declared.errno.Code.{Code}
 use Rattle.usb_machine.specs.declared.transfer.Transfer.{Transfer}
 use Rattle.usb_machine.specs.declared.entry.Entry.{Entry}
@@ -14,16 +14,22 @@ use Rattle.usb_line.specs.declared.made.Deed.TheVariants as deed
 use Rattle.usb_line.specs.declared.run.UrbRow.{UrbRow}
 use Rattle.usb_line.specs.declared.run.LineRun.{LineRun}
 use Rattle.usb_prepare.specs.Layout.{home}
-use Rattle.usb_line.specs.Prepared.{machine_of, buffer_of}
+use Rattle.usb_line.specs.declared.submit.Said.{Said}
+use Rattle.usb_line.specs.Prepared.{machine_of, buffer_of, len_in, short_in, setup_by}
 use Rattle.usb_line.specs.Line.{Progress, adds}
-use Rattle.usb_line.specs.Shows.{Shows}
+use Rattle.usb_line.specs.Shows.{IsApt, Shows}
 use Rattle.usb_line.specs.Steps.{passes_of}
 use Rattle.usb_line.specs.Calls.{MayMake}
 use Rattle.usb_line.specs.Turned.{SameElse}
 
--- the transfer that a submit of this URB sends
-abbrev pub sent_by : SceneUrb → Call → Transfer
-sent_by urb c = let buf = buffer_of urb.len c.bytes in record { setup = c.setup; buf = buf; from = 0; len = length buf; short_not_ok = urb.short; actual = 0; number = c.line }
+-- what the scene says of an URB: of a driver's nothing
+abbrev pub said_of : Option SceneUrb → Said
+said_of urb = record { len = len_in urb; short = short_in urb }
+
+-- the transfer that a submit sends of an URB of which this is said
+abbrev pub sent_by : Said → Call → Transfer
+sent_by said c = let buf = buffer_of said.len c.bytes in
+    record { setup = setup_by c.code c.target c.setup; buf = buf; from = 0; len = length buf; short_not_ok = said.short; actual = 0; number = c.line }
 
 -- the machine may be asked to send this transfer, which the URB's home takes
 pub record MayAsk (s : Scene) (h : List Entry) (p u : ℕ) (t : Transfer) : Type 0 where
@@ -36,7 +42,7 @@ pub record MayAsk (s : Scene) (h : List Entry) (p u : ℕ) (t : Transfer) : Type
 -- and the object shows the run before it
 pub record MaySend (s : Scene) (f : Progress) (run : LineRun) (p u : ℕ) (t : Transfer) : Type 0 where
   pub shows : Shows s f run
-  pub near : u < length s.urbs
+  pub apt : IsApt s u t
   pub ask : MayAsk s f.history p u t
 
 -- the gate was asked with this transfer, and answered this
@@ -45,12 +51,12 @@ pub record Sent (s : Scene) (f : Progress) (p u : ℕ) (t : Transfer) (code : Co
   pub shows : Shows s (adds f (submit_entries p u t code)) run
 
 -- the object shows the run before this call, which submits this URB
-pub record CanSubmit (run : LineRun) (p u : ℕ) (urb : SceneUrb) (c : Call) : Type 0 where
+pub record CanSubmit (run : LineRun) (p u : ℕ) (said : Said) (c : Call) : Type 0 where
   pub scene : Scene
   pub far : Progress
   pub thread : ℕ
   pub may : MayMake scene far thread c run p (deed.Submit u)
-  pub is : slice_get scene.urbs u ≡ Some urb
+  pub is : said_of (slice_get scene.urbs u) ≡ said
 
 -- the transfer is in the row of URB u, and nothing else changed
 pub record Keeps (old new : LineRun) (u : ℕ) (t : Transfer) : Type 0 where

@@ -1,13 +1,20 @@
 -- What the code of a run keeps of it.
-use Rattle.std.specs.Prelude.{ℕ, ◌≡◌, ◌+◌, ◌-◌, ◌<◌, ◌^◌, Bool, true, false, List, [], length, map, sum_by, slice_get, Option, Some, None}
+use Rattle.std.specs.Prelude.{ℕ, ◌≡◌, ◌+◌, ◌-◌, ◌<◌, ◌^◌, Bool, true, false, List, [], ◌++◌, length, map, sum_by, slice_get, Option, Some, None, option_and_then}
 use Rattle.usb_machine.specs.declared.transfer.Transfer.{Transfer}
 use Rattle.usb_machine.specs.declared.entry.Entry.{Entry}
 use Rattle.usb_machine.specs.declared.plain.Plain.{Plain}
 use Rattle.usb_machine.specs.History.{state_of, pending_of, sent_of}
 use Rattle.usb_machine.specs.Plain.{Stands}
-use Rattle.usb_xfer.specs.Moved.{moved, IsOpen}
+use Rattle.usb_xfer.specs.Direction.{asked_at}
+use Rattle.usb_xfer.specs.Moved.{moved, question_of, IsOpen}
 use Rattle.usb_device.specs.declared.scripted.Scripted.{Scripted}
 use Rattle.usb_device.specs.Device.{Call, questions_at, Stands as ScriptStands}
+use Rattle.usb_device.specs.Laws.{sets_halt, NoneHalts}
+use Rattle.usb_device.specs.Left.{items_left}
+use Rattle.usb_bind.specs.declared.bound.Bound.{Bound}
+use Rattle.usb_class.specs.declared.class_core.Core.{Core}
+use Rattle.usb_class.specs.Core.{IsCore}
+use Rattle.usb_xfer.specs.Replies.{Question}
 use Rattle.usb_scene.specs.declared.scene.Scene.{Scene}
 use Rattle.usb_scene.specs.declared.scene.SceneDevice.{SceneDevice}
 use Rattle.usb_scene.specs.WellFormed.{IsWellFormed}
@@ -15,18 +22,27 @@ use Rattle.usb_line.specs.declared.run.UrbRow.{UrbRow}
 use Rattle.usb_line.specs.declared.run.EndRow.{EndRow}
 use Rattle.usb_line.specs.declared.run.LineRun.{LineRun}
 use Rattle.usb_prepare.specs.Ends.{ends_of, shape_at, is_raw_at}
+use Rattle.usb_prepare.specs.Prepared.{bindings_of}
 use Rattle.usb_prepare.specs.Layout.{urb_count, home}
-use Rattle.usb_line.specs.Prepared.{machine_of, again_of}
-use Rattle.usb_line.specs.Run.{times_back}
-use Rattle.usb_line.specs.Between.{IsCalm, AllLinked}
+use Rattle.usb_line.specs.Prepared.{machine_of, owner_of, again_of}
+use Rattle.usb_line.specs.Run.{times_back, Giveback, done_at, asked_of}
+use Rattle.usb_line.specs.Between.{IsCalm, AllLinked, IsBare}
+use Rattle.usb_line.specs.Due.{is_ruled, heard_before}
 use Rattle.usb_line.specs.Given.{given_of, acked_at, IsReceived}
-use Rattle.usb_line.specs.Line.{Progress, replies_used, replies_had, Gives, GivesBack, IsIdle, woken}
+use Rattle.usb_line.specs.Line.{Progress, asked_so_far, replies_had, Gives, GivesBack, IsIdle, woken}
 
--- the URB is one of the scene's own, and the transfer the one that was sent, as its replies so far moved it, and they did
--- not end it
+-- URB u may have this transfer: its home is asked at its own address, the transfer halts no endpoint of a device that isn't
+-- raw, and where a driver may go on with it, it has no setup packet
+pub record IsApt (s : Scene) (u : ℕ) (t : Transfer) : Type 0 where
+  pub near : u < urb_count s
+  pub asked : asked_at (shape_at s (home s u)) ≡ (shape_at s (home s u)).address
+  pub tame : is_raw_at s (shape_at s (home s u)).device ≡ false → sets_halt (question_of (shape_at s (home s u)) t) ≡ false
+  pub bare : IsBare (owner_of s u) t.setup
+
+-- the transfer is the one that was sent, as its replies so far moved it, and they did not end it
 pub record IsMoving (s : Scene) (f : Progress) (u : ℕ) (t : Transfer) : Type 0 where
-  pub own : u < length s.urbs
   pub start : Transfer
+  pub apt : IsApt s u start
   pub sent : sent_of f.history u ≡ Some start
   pub moving : t ≡ moved (shape_at s (home s u)) start (replies_had s f u)
   pub going : IsOpen (shape_at s (home s u)) start (replies_had s f u)
@@ -38,6 +54,7 @@ HoldsTransfer s f u (Some t) = ((state_of f.history u).queued ≡ true) × IsMov
 
 pub record ShowsUrb (s : Scene) (f : Progress) (u : ℕ) (row : UrbRow) : Type 0 where
   pub at : row.home ≡ home s u
+  pub owner : row.owner ≡ owner_of s u
   pub more : row.again ≡ again_of s u - times_back u f.rounds
   pub holds : HoldsTransfer s f u row.transfer
 
@@ -46,20 +63,40 @@ pub record ShowsEnd (s : Scene) (f : Progress) (e : ℕ) (end : EndRow) : Type 0
   pub sleeps : end.asleep ≡ f.asleep e
   pub acked : IsReceived (acked_at s e f.rounds) end.received
 
--- the device heard these calls, and a raw one at each of its endpoints as many as the endpoint gave replies
+-- the transfer that is first pending at an endpoint
+abbrev pub first_sent : Scene → Progress → ℕ → Option Transfer
+first_sent s f e = option_and_then (sent_of f.history) (slice_get (pending_of (machine_of s) f.history e) 0)
+
+abbrev pub asked_by : Scene → Progress → ℕ → Option Transfer → List Question
+asked_by s f e None = asked_of s e f.rounds
+asked_by s f e (Some t) = asked_so_far s f e t
+
+-- what an endpoint was asked in the run: by its givebacks, and since by what is first pending
+abbrev pub asked_now : Scene → Progress → ℕ → List Question
+asked_now s f e = asked_by s f e (first_sent s f e)
+
+-- the device heard these calls: at each of its endpoints as many as the endpoint was asked in the run, and at one that answers
+-- by rules those questions, behind what it heard before. One of a class was told of no halt
 pub record ShowsDevice (s : Scene) (f : Progress) (d : ℕ) (scripted : Scripted) : Type 0 where
   pub device : SceneDevice
   pub at : slice_get s.devices d ≡ Some device
   pub calls : List Call
   pub stands : ScriptStands scripted device.script calls
-  pub counts : is_raw_at s d ≡ true → (e : ℕ) → e < ends_of s → (shape_at s e).device ≡ d → length (questions_at (shape_at s e).address calls) ≡ replies_used s f e
+  pub counts : (e : ℕ) → e < ends_of s → (shape_at s e).device ≡ d → is_ruled s e ≡ false → length (questions_at (shape_at s e).address calls) ≡ length (asked_now s f e)
+  pub rules : (e : ℕ) → e < ends_of s → (shape_at s e).device ≡ d → is_ruled s e ≡ true → questions_at 0 calls ≡ questions_at 0 (heard_before s d) ++ asked_now s f e
+  pub unhalted : is_raw_at s d ≡ false → NoneHalts calls
 
 -- each device of the scene is there
 pub record ShowsDevices (s : Scene) (f : Progress) (devices : List Scripted) : Type 0 where
   pub all : length devices ≡ length s.devices
   pub each : (d : ℕ) (scripted : Scripted) → slice_get devices d ≡ Some scripted → ShowsDevice s f d scripted
 
--- the run's object has come as far as f: its machine, its devices, endpoints and URBs, and what came back
+-- the core of each binding has seen what came back of its URBs
+pub record ShowsCores (s : Scene) (rounds : List Giveback) (cores : List Core) : Type 0 where
+  pub all : length cores ≡ length (bindings_of s)
+  pub each : (k : ℕ) (core : Core) (b : Bound) → slice_get cores k ≡ Some core → slice_get (bindings_of s) k ≡ Some b → IsCore b.driver (done_at s k rounds) core
+
+-- the run's object has come as far as f: its machine, its devices, endpoints and URBs, the cores of its drivers, and what came back
 pub record Shows (s : Scene) (f : Progress) (run : LineRun) : Type 0 where
   pub stands : Stands run.plain (machine_of s) f.history
   pub calm : IsCalm f.history
@@ -71,6 +108,7 @@ pub record Shows (s : Scene) (f : Progress) (run : LineRun) : Type 0 where
   pub all_urbs : length run.urbs.items ≡ urb_count s
   pub each_urb : (u : ℕ) (row : UrbRow) → slice_get run.urbs.items u ≡ Some row → ShowsUrb s f u row
   pub unmoved : (e : ℕ) → pending_of (machine_of s) f.history e ≡ [] → f.so_far e ≡ []
+  pub cores : ShowsCores s f.rounds run.cores.items
   pub came_back : run.given ≡ map (given_of s) f.rounds
   pub host : run.down ≡ f.down
 
@@ -92,9 +130,9 @@ abbrev pub held : Option Transfer → ℕ
 held None = 0
 held (Some t) = 1
 
--- at most so many turns give something back
+-- at most so many turns give something back: what a driver reads again has used an item
 abbrev pub turns_left : LineRun → ℕ
-turns_left run = sum_by (λ (row : UrbRow). row.again + held row.transfer) run.urbs.items
+turns_left run = sum_by (λ (row : UrbRow). row.again + held row.transfer) run.urbs.items + sum_by items_left run.devices.items
 
 -- what a turn did, by whether it gave back
 abbrev pub Turned : Scene → Progress → Bool → LineRun → Type 0

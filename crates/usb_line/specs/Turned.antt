@@ -1,5 +1,5 @@
 -- What the parts of a turn do.
-use Rattle.std.specs.Prelude.{ℕ, suc, ◌≡◌, ◌<◌, ◌⊎◌, Bool, true, false, List, [], slice_get, slice_set, Option, Some, None}
+use Rattle.std.specs.Prelude.{ℕ, suc, ◌≡◌, ◌<◌, ◌≤◌, ◌⊎◌, Bool, true, false, List, [], slice_get, slice_set, Option, Some, None}
 use Rattle.usb_types.specs.declared.errno.Code.{Code}
 use Rattle.usb_types.specs.declared.errno.Code.TheVariants.{Fault}
 use Rattle.usb_types.specs.declared.urb.Why.{Why}
@@ -33,6 +33,7 @@ pub record SameElse (old new : LineRun) : Type 0 where
   pub plain : new.plain ≡ old.plain
   pub told : new.given ≡ old.given
   pub host : new.down ≡ old.down
+  pub cores : new.cores ≡ old.cores
 
 -- the transfer of URB u was taken out of its row
 pub record TakesOut (old new : LineRun) (u : ℕ) (t : Option Transfer) : Type 0 where
@@ -110,7 +111,7 @@ pub record EndsAt (s : Scene) (f : Progress) (e : ℕ) (run : LineRun) : Type 0 
   pub code : Code
   pub at : IsServed s f e urb start
   pub goes : GoesTo s f e start count (Ended code)
-  pub shows : Shows s (given_back s f (round_of s f urb code true start (had_after s f e count))) run
+  pub shows : Shows s (given_back s f (round_of s f urb code true start (had_after s f e start count))) run
 
 -- endpoint e was passed over, or its first pending transfer waits now
 pub record PassesBy (s : Scene) (f : Progress) (e : ℕ) (run : LineRun) : Type 0 where
@@ -129,7 +130,7 @@ abbrev pub EndsServed : Scene → Progress → Bool → LineRun → Type 0
 EndsServed s f true run = (e : ℕ) × (m : Progress) × (e < ends_of s) × Passes s f e m × EndsAt s m e run
 EndsServed s f false run = (m : Progress) × Passes s f (ends_of s) m × Shows s m run
 
--- one turn fewer is left where something came back, and else as many
+-- fewer turns are left where something came back, and else no more
 abbrev pub TurnsFall : Bool → LineRun → LineRun → Type 0
 TurnsFall true old new = turns_left new < turns_left old
-TurnsFall false old new = turns_left new ≡ turns_left old
+TurnsFall false old new = turns_left new ≤ turns_left old

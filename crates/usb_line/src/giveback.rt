@@ -8,15 +8,17 @@ ghost use Rattle.usb_line.specs.declared.run.UrbRow.{UrbRow};
 ghost use Rattle.usb_line.specs.Prepared.{machine_of};
 ghost use Rattle.usb_line.specs.Run.{Giveback, given_entries};
 ghost use Rattle.usb_line.specs.Steps.{AsMany};
-ghost use Rattle.usb_line.specs.Back.{MayGive, is_again, Finished, Acted, Resubmitted, Handled, GaveBack};
+ghost use Rattle.usb_line.specs.Back.{is_again, CanNote, Noted, Finished, Acted, Resubmitted, Given as Gives, Handled, GaveBack};
 
 use crate::made::{Given, Outcome};
+use crate::owner::Owner;
 use crate::received::{brought, left_with};
 use crate::run::{LineRun, UrbRow};
 use crate::steps::{code_in, enter};
 use std::alloc::Global;
+use usb_class::goes_again;
 use usb_machine::{Event, Plain, SERVER, Transfer};
-use usb_types::{Code, Memory, UrbId};
+use usb_types::{Action, Code, Memory, UrbId};
 
 // Marks the URB as finished where its transfer ended with a code.
 fn finish(plain: &mut Plain, urb: UrbId, ended: Option<Code>)
@@ -33,8 +35,7 @@ fn finish(plain: &mut Plain, urb: UrbId, ended: Option<Code>)
 fn give(plain: &mut Plain, urb: UrbId, ended: Option<Code>) -> Code
     requires { urb.0 < urbs_of plain.old }
     ensures counts { AsMany plain.old plain.new }
-    ensures given { (s : Scene) (h : List Entry) (r : Giveback) → Stands plain.old (machine_of s) h → MayGive s h r urb.0 ended
-        → (result ≡ r.status) × Stands plain.new (machine_of s) (h ++ given_entries r.urb r.status r.finished) }
+    ensures given { Gives plain.old plain.new urb.0 ended result }
 {
     finish(plain, urb, ended);
     code_in(enter(plain, SERVER, Event::Give { urb }))
@@ -68,26 +69,42 @@ fn act(plain: &mut Plain, urb: UrbId, again: bool, number: u64) -> Outcome
     Outcome::Rest
 }
 
-// Gives the URB back, whose transfer has this number and ended with a code or was unlinked, and runs its handler.
-// Answers the status, and what the handler did.
-fn give_back(
-    plain: &mut Plain,
-    urb: UrbId,
-    ended: Option<Code>,
-    again: bool,
-    number: u64,
-) -> (Code, Outcome)
+// Runs the handler of an URB that came back, which ends. Answers what it did.
+fn handle(plain: &mut Plain, urb: UrbId, again: bool, number: u64) -> Outcome
     requires { urb.0 < urbs_of plain.old }
     ensures counts { AsMany plain.old plain.new }
-    ensures handled { Handled plain.old plain.new urb.0 ended again number result.0 result.1 }
+    ensures handled { Handled plain.old plain.new urb.0 again number result }
 {
-    let status = give(plain, urb, ended);
     let outcome = act(plain, urb, again, number);
     enter(plain, SERVER, Event::End { urb });
-    (status, outcome)
+    outcome
 }
 
 impl LineRun<'_> {
+    // What becomes of a transfer that came back with this status: what the core of its driver says, and without one it goes
+    // on with the same window where it may.
+    fn decide(
+        &mut self,
+        owner: Option<Owner>,
+        may: bool,
+        status: Code,
+        t: &Transfer,
+    ) -> Result<Action, Memory>
+        requires core { CanNote self.old.cores.items owner }
+        requires window { HasWindow t.now }
+        ensures noted { IfOk result (λ action. Noted self.old.cores.items self.new.cores.items owner may status t.now action) }
+        ensures rest { IfOk result (λ _. self.new ≡ record self.old { cores = self.new.cores }) }
+    {
+        match owner {
+            Some(owner) => self.cores[owner.place as usize].complete(owner.role, status, t),
+            None if may => Ok(Action::Again {
+                from: t.from,
+                len: t.len,
+            }),
+            None => Ok(Action::Rest),
+        }
+    }
+
     /// Gives the URB back with its transfer, which ended with a code or was unlinked, and runs its handler.
     pub fn bring_back(
         &mut self,
@@ -99,12 +116,15 @@ impl LineRun<'_> {
         requires known { urb < urbs_of self.old.plain }
         requires there { urb < length self.old.urbs.items }
         requires home { (row : UrbRow) → slice_get self.old.urbs.items urb ≡ Some row → row.home < length self.old.ends.items }
+        requires core { (row : UrbRow) → slice_get self.old.urbs.items urb ≡ Some row → CanNote self.old.cores.items row.owner }
         requires window { HasWindow t }
         ensures back { IfOk result (λ _. GaveBack self.old self.new urb ended t) }
     {
         let row = &self.urbs[urb as usize];
-        let (home, again) = (row.home, row.again);
-        let (status, outcome) = give_back(&mut self.plain, UrbId(urb), ended, again > 0, t.number);
+        let (home, owner, again) = (row.home, row.owner, row.again);
+        let status = give(&mut self.plain, UrbId(urb), ended);
+        let action = self.decide(owner, again > 0, status, &t)?;
+        let outcome = handle(&mut self.plain, UrbId(urb), goes_again(action), t.number);
         let shape = self.ends[home as usize].shape;
         let bytes = brought(alloc, &shape, &t)?;
         self.ends[home as usize].received.note(&shape, &t)?;
@@ -117,8 +137,9 @@ impl LineRun<'_> {
         })?;
         self.urbs[urb as usize] = UrbRow {
             home,
+            owner,
             again: again.saturating_sub(1),
-            transfer: left_with(outcome, t),
+            transfer: left_with(outcome, action, t),
         };
         Ok(())
     }

@@ -1,10 +1,14 @@
 //! The run of a scene in line order.
-ghost use Rattle.std.specs.Prelude.{◌≡◌, [], map, length, IfOk};
+ghost use Rattle.std.specs.Prelude.{◌≡◌, [], map, length, List, IfOk};
+ghost use Rattle.usb_scene.specs.declared.scene.Scene.{Scene};
 ghost use Rattle.usb_scene.specs.WellFormed.{IsWellFormed};
-ghost use Rattle.usb_prepare.specs.Prepared.{bindings_of};
+ghost use Rattle.usb_prepare.specs.Bindings.{HaveHeard};
+ghost use Rattle.usb_prepare.specs.Prepared.{bindings_of, probes_of};
 ghost use Rattle.usb_prepare.specs.Layout.{layout_of};
 ghost use Rattle.usb_prepare.specs.Ready.{AreReady};
 ghost use Rattle.usb_line.specs.Prepared.{calls_of};
+ghost use Rattle.usb_line.specs.Run.{Giveback, drivers_told};
+ghost use Rattle.usb_line.specs.Shows.{ShowsCores};
 ghost use Rattle.usb_line.specs.Calls.{IsUnderway};
 ghost use Rattle.usb_line.specs.Outcome.{received_at, IsOutcome};
 
@@ -14,6 +18,7 @@ use crate::run::{EndReceived, EndRow, LineRun};
 use crate::thread::main_pass_of;
 use std::alloc::Global;
 use usb_bind::Bound;
+use usb_class::{Core, Told};
 use usb_device::Scripted;
 use usb_machine::Layout;
 use usb_scene::Scene;
@@ -24,6 +29,8 @@ use usb_types::{List, Memory};
 pub struct LineOutcome {
     pub made: List<CallMade>,
     pub given: List<Given>,
+    /// Of each binding, by its place, what its driver tells.
+    pub told: List<Told>,
     /// Of each endpoint, by its number.
     pub ends: List<EndReceived>,
 }
@@ -38,6 +45,17 @@ fn received(alloc: Global, ends: Vec<EndRow>) -> Result<List<EndReceived>, Memor
             shape: end.shape,
             received: end.received,
         })?;
+    }
+    Ok(list)
+}
+
+// What each core tells.
+fn told(alloc: Global, cores: Vec<Core>) -> Result<List<Told>, Memory>
+    ensures { IfOk result (λ list. (s : Scene) (rounds : List Giveback) → ShowsCores s rounds cores.items → list ≡ drivers_told s rounds) }
+{
+    let mut list = List::of(Vec::new(alloc));
+    for core in cores {
+        list.push(core.into_told())?;
     }
     Ok(list)
 }
@@ -71,17 +89,21 @@ pub fn run_line(
 ) -> Result<LineOutcome, Memory>
     requires good { IsWellFormed scene.now }
     requires devices { AreReady scene.now.devices devices.items }
+    requires heard { HaveHeard scene.now.devices (probes_of scene.now).heard devices.items }
     requires bound { bindings.now ≡ bindings_of scene.now }
     requires layout { layout.now ≡ layout_of scene.now }
     ensures { IfOk result (IsOutcome scene.now) }
 {
-    let mut run = opening(alloc, scene, devices, layout)?;
+    let main = main_pass_of(scene);
+    let mut run = opening(alloc, scene, devices, bindings, layout)?;
+    run.submit_reads(alloc, main)?;
     let mut made = List::of(Vec::new(alloc));
     make_calls(alloc, scene, bindings, &mut run, &mut made)?;
-    run.close(alloc, main_pass_of(scene))?;
+    run.close(alloc, main)?;
     Ok(LineOutcome {
         made,
         given: run.given,
+        told: told(alloc, run.cores)?,
         ends: received(alloc, run.ends)?,
     })
 }

@@ -8,6 +8,7 @@ ghost use Rattle.usb_line.specs.Calls.{MayBeMade, CanBeMade, Made, IsUnderway};
 
 use crate::made::{CallAnswer, CallMade, Deed};
 use crate::run::LineRun;
+use crate::submit::said_of;
 use crate::thread::{deed_in, pass_of_thread};
 use std::alloc::Global;
 use usb_bind::Bound;
@@ -31,8 +32,8 @@ impl LineRun<'_> {
         let pass = pass_of_thread(scene, thread);
         match deed_in(bindings, call) {
             Deed::Submit(urb) => {
-                let row = &scene.urbs.items()[urb as usize];
-                self.submit(alloc, pass, UrbId(urb), row, call)
+                let said = said_of(scene.urbs.items(), urb);
+                self.submit(alloc, pass, UrbId(urb), said, call)
             }
             Deed::Unlink(urb) => Ok(self.unlink(pass, UrbId(urb))),
             Deed::Kill(urb) => self.kill(alloc, pass, UrbId(urb)),

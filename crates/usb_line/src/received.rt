@@ -8,8 +8,9 @@ ghost use Rattle.usb_line.specs.Back.{left_by, Adds};
 use crate::made::Outcome;
 use crate::run::Received;
 use std::alloc::Global;
+use usb_class::with_window;
 use usb_machine::{EndKind, Shape, Transfer};
-use usb_types::{Buf, Code, Memory};
+use usb_types::{Action, Buf, Code, Memory};
 use usb_xfer::is_in;
 
 // The bytes that were moved.
@@ -74,14 +75,11 @@ pub fn brought(alloc: Global, shape: &Shape, t: &Transfer) -> Result<Buf, Memory
 }
 
 /// What a handler leaves with its URB of the transfer that came back.
-pub fn left_with(outcome: Outcome, mut t: Transfer) -> Option<Transfer>
-    ensures { result ≡ left_by outcome t }
+pub fn left_with(outcome: Outcome, action: Action, t: Transfer) -> Option<Transfer>
+    ensures { result ≡ left_by outcome action t }
 {
     match outcome {
-        Outcome::Again(Code::Zero) => {
-            t.actual = 0;
-            Some(t)
-        }
+        Outcome::Again(Code::Zero) => Some(with_window(action, t)),
         _ => None,
     }
 }

@@ -1,6 +1,8 @@
 //! A run in line order, as far as it has come.
 
 use crate::made::Given;
+use crate::owner::Owner;
+use usb_class::Core;
 use usb_device::Scripted;
 use usb_machine::{Plain, Shape, Transfer};
 use usb_types::{Buf, List};
@@ -10,6 +12,8 @@ use usb_types::{Buf, List};
 pub struct UrbRow {
     /// The number of its endpoint.
     pub home: u32,
+    /// The driver that has it, if one has.
+    pub owner: Option<Owner>,
     /// How often its handler still submits again.
     pub again: u32,
     /// Where it is queued, its transfer, as it was moved so far.
@@ -48,6 +52,8 @@ pub struct LineRun<'a> {
     pub devices: Vec<Scripted<'a>>,
     pub ends: Vec<EndRow>,
     pub urbs: Vec<UrbRow>,
+    /// Of each binding, by its place, the core of its driver.
+    pub cores: Vec<Core>,
     pub given: List<Given>,
     /// Whether the host is down.
     pub down: bool,

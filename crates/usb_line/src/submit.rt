@@ -13,25 +13,51 @@ ghost use Rattle.usb_line.specs.declared.run.UrbRow.{UrbRow};
 ghost use Rattle.usb_line.specs.declared.made.Deed.TheVariants as deed;
 ghost use Rattle.usb_prepare.specs.Ends.{shape_at};
 ghost use Rattle.usb_prepare.specs.Layout.{home};
-ghost use Rattle.usb_line.specs.Prepared.{machine_of, buffer_of};
+ghost use Rattle.usb_line.specs.Prepared.{machine_of, buffer_of, setup_by};
 ghost use Rattle.usb_line.specs.Line.{Progress};
 ghost use Rattle.usb_line.specs.Shows.{Shows};
 ghost use Rattle.usb_line.specs.Steps.{AsMany};
 ghost use Rattle.usb_line.specs.Calls.{MayMake, Made};
-ghost use Rattle.usb_line.specs.Sent.{sent_by, MayAsk, MaySend, Sent, Keeps, CanSubmit};
+ghost use Rattle.usb_line.specs.Sent.{said_of, sent_by, MayAsk, MaySend, Sent, Keeps, CanSubmit};
 
 use crate::made::CallAnswer;
 use crate::run::LineRun;
 use crate::steps::{code_in, enter};
 use std::alloc::Global;
+use usb_class::setup_for;
 use usb_machine::{Event, Plain, Transfer, shape_fault};
-use usb_scene::{Call, SceneUrb};
+use usb_scene::{Call, SceneUrb, Target};
 use usb_types::{Buf, Code, Errno, Memory, UrbId};
 
+/// What the scene says of an URB: of a driver's nothing.
+#[derive(Clone, Copy, Debug, PartialEq, Eq)]
+pub struct Said {
+    /// How many zero bytes a submit without data carries.
+    pub len: u32,
+    /// Whether fewer bytes than asked are a fault.
+    pub short: bool,
+}
+
+/// What the scene says of an URB.
+pub fn said_of(urbs: &[SceneUrb], urb: u32) -> Said
+    ensures { result ≡ said_of (slice_get urbs.now urb) }
+{
+    match urbs.get(urb as usize) {
+        Some(urb) => Said {
+            len: urb.len,
+            short: urb.short,
+        },
+        None => Said {
+            len: 0,
+            short: false,
+        },
+    }
+}
+
 // How many bytes a submit of the URB carries.
-fn size(said: &SceneUrb, call: &Call) -> u32
+fn size(said: Said, call: &Call) -> u32
     requires { IsBuffer call.now.bytes }
-    ensures { result ≡ length (buffer_of said.now.len call.now.bytes) }
+    ensures { result ≡ length (buffer_of said.len call.now.bytes) }
 {
     match &call.bytes {
         Some(bytes) => bytes.bytes().len() as u32,
@@ -39,8 +65,8 @@ fn size(said: &SceneUrb, call: &Call) -> u32
     }
 }
 
-// Some zero bytes.
-fn zeros(alloc: Global, len: u32) -> Result<Buf, Memory>
+/// Some zero bytes.
+pub fn zeros(alloc: Global, len: u32) -> Result<Buf, Memory>
     ensures { IfOk result (λ buf. buf ≡ replicate len 0) }
 {
     match vec![in alloc; 0u8; len as usize] {
@@ -50,8 +76,8 @@ fn zeros(alloc: Global, len: u32) -> Result<Buf, Memory>
 }
 
 // What a submit of the URB carries: the bytes of the call, and without such bytes zeros.
-fn buffer(alloc: Global, said: &SceneUrb, call: &Call) -> Result<Buf, Memory>
-    ensures { IfOk result (λ buf. buf ≡ buffer_of said.now.len call.now.bytes) }
+fn buffer(alloc: Global, said: Said, call: &Call) -> Result<Buf, Memory>
+    ensures { IfOk result (λ buf. buf ≡ buffer_of said.len call.now.bytes) }
 {
     match &call.bytes {
         Some(bytes) => {
@@ -63,13 +89,23 @@ fn buffer(alloc: Global, said: &SceneUrb, call: &Call) -> Result<Buf, Memory>
     }
 }
 
+// The setup packet that a call sends: the one that it has for an interface, or else the one that it says.
+fn setup(call: &Call) -> Option<[u8; 8]>
+    ensures { result ≡ setup_by call.now.code call.now.target call.now.setup }
+{
+    match call.target {
+        Target::Interface { interface, .. } => setup_for(call.code, interface),
+        _ => call.setup,
+    }
+}
+
 // The transfer that a submit of the URB sends, without its bytes.
-fn header(alloc: Global, said: &SceneUrb, call: &Call) -> Transfer
+fn header(alloc: Global, said: Said, call: &Call) -> Transfer
     requires { IsBuffer call.now.bytes }
-    ensures { result ≡ record (sent_by said.now call.now) { buf = [] } }
+    ensures { result ≡ record (sent_by said call.now) { buf = [] } }
 {
     Transfer {
-        setup: call.setup,
+        setup: setup(call),
         buf: Buf::of(Vec::new(alloc)),
         from: 0,
         len: size(said, call),
@@ -95,8 +131,8 @@ fn ask(plain: &mut Plain, pass: u32, urb: UrbId, number: u64) -> Code
 }
 
 impl LineRun<'_> {
-    // Why the URB's endpoint does not take the transfer, if it does not.
-    fn fault(&self, urb: UrbId, t: &Transfer) -> Option<Errno>
+    /// Why the URB's endpoint does not take the transfer, if it does not.
+    pub fn fault(&self, urb: UrbId, t: &Transfer) -> Option<Errno>
         requires there { urb.0 < length self.now.urbs.items }
         requires home { (row : UrbRow) → slice_get self.now.urbs.items urb.0 ≡ Some row → row.home < length self.now.ends.items }
         ensures { (s : Scene) (f : Progress) → Shows s f self.now → result ≡ fault_of (shape_at s (home s urb.0)) t.now }
@@ -113,8 +149,8 @@ impl LineRun<'_> {
         self.urbs[urb.0 as usize].transfer = Some(t);
     }
 
-    // Sends the transfer, and keeps it where the gate accepted it. Answers what the gate says.
-    fn send(&mut self, pass: u32, urb: UrbId, t: Transfer) -> Code
+    /// Sends the transfer, and keeps it where the gate accepted it. Answers what the gate says.
+    pub fn send(&mut self, pass: u32, urb: UrbId, t: Transfer) -> Code
         requires known { urb.0 < urbs_of self.old.plain }
         requires there { urb.0 < length self.old.urbs.items }
         ensures { (s : Scene) (f : Progress) → MaySend s f self.old pass urb.0 t → Sent s f pass urb.0 t result self.new }
@@ -133,11 +169,11 @@ impl LineRun<'_> {
         alloc: Global,
         pass: u32,
         urb: UrbId,
-        said: &SceneUrb,
+        said: Said,
         call: &Call,
     ) -> Result<CallAnswer, Memory>
-        requires { CanSubmit self.old pass urb.0 said.now call.now }
-        ensures { IfOk result (λ told. (s : Scene) (f : Progress) (i : ℕ) → MayMake s f i call.now self.old pass (deed.Submit urb.0) → slice_get s.urbs urb.0 ≡ Some said.now → Made s f i call.now told self.new) }
+        requires { CanSubmit self.old pass urb.0 said call.now }
+        ensures { IfOk result (λ told. (s : Scene) (f : Progress) (i : ℕ) → MayMake s f i call.now self.old pass (deed.Submit urb.0) → said_of (slice_get s.urbs urb.0) ≡ said → Made s f i call.now told self.new) }
     {
         let mut t = header(alloc, said, call);
         if let Some(errno) = self.fault(urb, &t) {

@@ -4,10 +4,12 @@ ghost use Rattle.usb_scene.specs.declared.scene.Scene.{Scene};
 ghost use Rattle.usb_prepare.specs.Prepared.{bindings_of};
 ghost use Rattle.usb_types.specs.declared.urb.UrbId.{UrbId};
 ghost use Rattle.usb_bind.specs.Board.{is_binding_of, urb_of_role};
-ghost use Rattle.usb_line.specs.Prepared.{deed_on, deed_alone, deed_on_any, deed_of, pass_of, main_pass};
+ghost use Rattle.usb_class.specs.Calls.{urb_for as urb_of_call};
+ghost use Rattle.usb_line.specs.Prepared.{deed_on, deed_alone, deed_on_any, deed_called as deed_of_called, deed_of, pass_of, main_pass};
 
 use crate::made::Deed;
 use usb_bind::Bound;
+use usb_class::urb_for;
 use usb_machine::HUB;
 use usb_scene::{Call, Scene, Target};
 use usb_types::Role;
@@ -67,6 +69,24 @@ fn bound_urb(bound: Option<Bound>, role: Role) -> Option<u32>
     Some(bound?.urb(role)?.0)
 }
 
+// The number of the URB that a call on an interface submits.
+fn called_urb(code: u32, bound: Option<Bound>) -> Option<u32>
+    ensures { result ≡ option_map (λ (u : UrbId). u.0) (option_and_then (urb_of_call code) bound) }
+{
+    Some(urb_for(code, &bound?)?.0)
+}
+
+// And what it does there.
+fn deed_called(urb: Option<u32>) -> Deed
+    ensures { result ≡ deed_of_called urb }
+{
+    if let Some(urb) = urb {
+        Deed::Submit(urb)
+    } else {
+        Deed::Absent
+    }
+}
+
 /// What a call does.
 pub fn deed_in(bindings: &[Bound], call: &Call) -> Deed
     ensures { (s : Scene) → bindings.now ≡ bindings_of s → result ≡ deed_of s call.now }
@@ -82,6 +102,10 @@ pub fn deed_in(bindings: &[Bound], call: &Call) -> Deed
             call.code,
             bound_urb(binding_of(bindings, device, interface), role),
         ),
+        Target::Interface { device, interface } => deed_called(called_urb(
+            call.code,
+            binding_of(bindings, device, interface),
+        )),
         Target::Anchor(_) | Target::Device(_) => Deed::Other,
     }
 }

@@ -5,7 +5,8 @@ use Rattle.std.proofs.lemmas.List.{at_drop_more}
 use Rattle.usb_types.specs.declared.urb.Role.{Role}
 use Rattle.usb_bind.specs.declared.bound.Bound.{Bound}
 use Rattle.usb_scene.specs.declared.scene.Scene.{Scene}
-use Rattle.usb_report.specs.Names.{role_name, role_in, bound_name}
+use Rattle.usb_class.specs.Roles.{role_in}
+use Rattle.usb_report.specs.Names.{role_name, bound_name}
 
 module _ (s : Scene) (u : ℕ) (bindings : List Bound) (i : ℕ) (b : Bound) where
   step : i < length bindings → (o : Option Role) → role_in u (get_or bindings i b) ≡ o

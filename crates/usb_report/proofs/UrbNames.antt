@@ -15,7 +15,8 @@ use Rattle.usb_scene.specs.WellFormed.{IsWellFormed}
 use Rattle.usb_prepare.specs.Prepared.{bindings_of}
 use Rattle.usb_prepare.specs.Layout.{role_urb}
 use Rattle.usb_prepare.proofs.Facts.{role_near, urb_once}
-use Rattle.usb_report.specs.Names.{role_name, all_roles, has_for, role_in, bound_name, urb_name}
+use Rattle.usb_class.specs.Roles.{all_roles, has_for, role_in}
+use Rattle.usb_report.specs.Names.{role_name, bound_name, urb_name}
 
 abbrev id : ℕ → UrbId
 id u = record { 0 = u }

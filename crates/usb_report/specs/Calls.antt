@@ -13,7 +13,7 @@ use Rattle.usb_line.specs.declared.made.CallAnswer.{CallAnswer}
 use Rattle.usb_line.specs.declared.made.CallAnswer.TheVariants as told
 use Rattle.usb_line.specs.declared.made.CallMade.{CallMade}
 use Rattle.usb_report.specs.Numbered.{numbered}
-use Rattle.usb_report.specs.Names.{own_name_or, role_name}
+use Rattle.usb_report.specs.Names.{device_name, own_name_or, role_name}
 
 -- a call's word, which the table of calls has for its number
 abbrev pub call_word : ℕ → List ℕ
@@ -23,6 +23,7 @@ call_word code = unwrap_or (name_at call_table code) []
 abbrev pub target_text : Scene → Target → List ℕ
 target_text s (on.Urb u) = own_name_or [] s u ++ codes " "
 target_text s (on.Role device interface role) = role_name s device interface role ++ codes " "
+target_text s (on.Interface device interface) = device_name s device ++ codes " " ++ decimal interface ++ codes " "
 target_text s _ = []
 
 -- the number of the buffer that a kill got

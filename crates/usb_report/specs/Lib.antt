@@ -1,5 +1,6 @@
 pub mod Numbered
 pub mod Names
 pub mod Listing
+pub mod Telling
 pub mod Calls
 pub mod Report

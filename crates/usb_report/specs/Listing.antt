@@ -86,7 +86,3 @@ list_text s found = numbered (λ d one. found_text (device_name s d) one) 0 foun
 -- driver DEVICE INTERFACE DRIVER
 abbrev pub bound_text : Scene → Bound → List ℕ
 bound_text s b = line (codes "driver" ∷ device_name s b.device ∷ decimal b.interface ∷ driver_name b.driver ∷ [])
-
--- the drivers in the order in which they were bound
-abbrev pub drivers_section : Scene → List Bound → List ℕ
-drivers_section s bindings = flat_map (bound_text s) bindings

@@ -1,13 +1,11 @@
 -- The names of devices and URBs in a report.
-use Rattle.std.specs.Prelude.{ℕ, ◌==◌, Bool, false, List, [], ◌∷◌, slice_get, find, Option}
+use Rattle.std.specs.Prelude.{ℕ, List, [], ◌∷◌, slice_get}
 use Rattle.std.specs.Option.{option_map_or}
 use Rattle.usb_types.specs.declared.urb.Role.{Role}
-use Rattle.usb_types.specs.declared.urb.Role.TheVariants.{In, Note, Read0, Read1, Write, Ctl}
-use Rattle.usb_types.specs.declared.urb.UrbId.{UrbId}
 use Rattle.usb_statement.specs.declared.urb_name.UrbName.TheVariants.{Driver}
 use Rattle.usb_statement.specs.Printed.{urb_text}
 use Rattle.usb_bind.specs.declared.bound.Bound.{Bound}
-use Rattle.usb_bind.specs.Board.{urb_of_role}
+use Rattle.usb_class.specs.Roles.{role_in}
 use Rattle.usb_scene.specs.declared.scene.Scene.{Scene}
 use Rattle.usb_scene.specs.declared.scene.SceneDevice.{SceneDevice}
 use Rattle.usb_scene.specs.declared.scene.SceneUrb.{SceneUrb}
@@ -19,17 +17,6 @@ device_name s d = option_map_or (λ (device : SceneDevice). device.name) (slice_
 -- the name of a driver's URB, as a line of a scene says it: DEVICE.NUM.ROLE
 abbrev pub role_name : Scene → ℕ → ℕ → Role → List ℕ
 role_name s device interface role = urb_text (Driver (device_name s device) interface role)
-
-abbrev pub all_roles : List Role
-all_roles = In ∷ Note ∷ Read0 ∷ Read1 ∷ Write ∷ Ctl ∷ []
-
--- whether a binding has URB u for a purpose
-abbrev pub has_for : ℕ → Bound → Role → Bool
-has_for u b role = option_map_or (λ (urb : UrbId). urb.0 == u) (urb_of_role b role) false
-
--- the purpose that a binding has URB u for
-abbrev pub role_in : ℕ → Bound → Option Role
-role_in u b = find (has_for u b) all_roles
 
 -- the name of a driver's URB, after the first binding that has it
 abbrev pub bound_name : Scene → ℕ → List Bound → List ℕ

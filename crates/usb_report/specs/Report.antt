@@ -5,6 +5,7 @@ use Rattle.std.specs.List.{flat_map, list_all}
 use Rattle.usb_types.specs.Codes.{code_text}
 use Rattle.usb_text.specs.Print.{hex_pair, hex_text, line}
 use Rattle.usb_bind.specs.declared.bound.Bound.{Bound}
+use Rattle.usb_class.specs.declared.class_core.Told.{Told}
 use Rattle.usb_scene.specs.declared.scene.Scene.{Scene}
 use Rattle.usb_prepare.specs.declared.found.Found.{Found}
 use Rattle.usb_line.specs.declared.made.CallMade.{CallMade}
@@ -13,7 +14,8 @@ use Rattle.usb_line.specs.declared.made.Outcome.TheVariants as outcome
 use Rattle.usb_line.specs.declared.made.Given.{Given}
 use Rattle.usb_line.specs.declared.run.EndReceived.{EndReceived}
 use Rattle.usb_report.specs.Names.{device_name, urb_name}
-use Rattle.usb_report.specs.Listing.{list_text, drivers_section}
+use Rattle.usb_report.specs.Listing.{list_text}
+use Rattle.usb_report.specs.Telling.{drivers_section}
 use Rattle.usb_report.specs.Calls.{threads_text}
 
 abbrev pub outcome_text : Outcome → List ℕ
@@ -42,8 +44,8 @@ end_text s end = if has_none end then [] else line (device_name s end.shape.devi
 abbrev pub received_section : Scene → List EndReceived → List ℕ
 received_section s ends = if list_all has_none ends then [] else line (codes "received" ∷ []) ++ flat_map (end_text s) ends
 
--- the report of a run: what the devices are found to be, the calls with their answers, what was given back, the drivers,
--- and what the endpoints received
-abbrev pub text_of : Scene → List Found → List Bound → List CallMade → List Given → List EndReceived → List ℕ
-text_of s found bindings made given ends =
-    list_text s found ++ threads_text s made ++ given_section s bindings given ++ drivers_section s bindings ++ received_section s ends
+-- the report of a run: what the devices are found to be, the calls with their answers, what was given back, what the
+-- drivers tell, and what the endpoints received
+abbrev pub text_of : Scene → List Found → List Bound → List CallMade → List Given → List Told → List EndReceived → List ℕ
+text_of s found bindings made given told ends =
+    list_text s found ++ threads_text s made ++ given_section s bindings given ++ drivers_section s bindings told ++ received_section s ends

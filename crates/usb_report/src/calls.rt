@@ -1,9 +1,10 @@
 //! The threads of a report, with their calls and what these answered.
-ghost use Rattle.std.specs.Prelude.{◌≡◌, ◌<◌, ◌^◌, ◌++◌, [], ◌∷◌, OnOk, length};
+ghost use Rattle.std.specs.Prelude.{◌≡◌, ◌<◌, ◌^◌, ◌++◌, [], ◌∷◌, OnOk, length, codes, decimal};
 ghost use Rattle.std.specs.List.{flat_map};
+ghost use Rattle.usb_report.specs.Names.{device_name};
 ghost use Rattle.usb_report.specs.Calls.{call_word, target_text, buffer_text, answer_text, call_text, is_told, made_text, made_by, thread_text, threads_text};
 
-use crate::names::{push_own_urb, push_role};
+use crate::names::{push_device, push_own_urb, push_role};
 use usb_line::{CallAnswer, CallMade};
 use usb_scene::{Scene, SceneThread, Target};
 use usb_text::push_number;
@@ -17,6 +18,16 @@ fn call_word(code: u32) -> &'static str
         Some(name) => name,
         None => "",
     }
+}
+
+// The name of a device and the number of its interface, each with the space behind it.
+fn push_interface(report: &mut Buf, scene: &Scene, device: u32, interface: u8) -> Result<(), Memory>
+    ensures { OnOk result (report.new ≡ report.old ++ (device_name scene.now device ++ codes " " ++ decimal interface ++ codes " ")) }
+{
+    push_device(report, scene, device)?;
+    report.append(b" ")?;
+    push_number(report, interface as u64)?;
+    report.append(b" ")
 }
 
 fn push_target(report: &mut Buf, scene: &Scene, target: Target) -> Result<(), Memory>
@@ -35,6 +46,7 @@ fn push_target(report: &mut Buf, scene: &Scene, target: Target) -> Result<(), Me
             push_role(report, scene, device, interface, role)?;
             report.append(b" ")
         }
+        Target::Interface { device, interface } => push_interface(report, scene, device, interface),
         Target::Nothing | Target::Anchor(_) | Target::Device(_) => Ok(()),
     }
 }

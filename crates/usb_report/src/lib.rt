@@ -6,6 +6,7 @@ mod laws;
 mod listing;
 mod names;
 mod report;
+mod telling;
 
 pub use laws::an_urb_of_a_driver_is_named_by_its_role;
 pub use listing::push_list;

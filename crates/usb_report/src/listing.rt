@@ -3,7 +3,7 @@ ghost use Rattle.std.specs.Prelude.{◌≡◌, ◌<◌, ◌^◌, ◌++◌, OnOk,
 ghost use Rattle.std.specs.List.{flat_map};
 ghost use Rattle.usb_types.specs.Codes.{code_text};
 ghost use Rattle.usb_report.specs.Names.{device_name};
-ghost use Rattle.usb_report.specs.Listing.{quad, desc_text, request_name, fault_text, driver_name, taken_text, class_name, class_text, face_text, found_text, list_text, bound_text, drivers_section};
+ghost use Rattle.usb_report.specs.Listing.{quad, desc_text, request_name, fault_text, driver_name, taken_text, class_name, class_text, face_text, found_text, list_text, bound_text};
 
 use crate::names::push_device;
 use usb_bind::{Bound, Driver};
@@ -221,7 +221,8 @@ pub fn push_list(report: &mut Buf, scene: &Scene, found: &[Found]) -> Result<(),
     Ok(())
 }
 
-fn push_bound(report: &mut Buf, scene: &Scene, bound: &Bound) -> Result<(), Memory>
+/// Adds the line of a binding.
+pub(crate) fn push_bound(report: &mut Buf, scene: &Scene, bound: &Bound) -> Result<(), Memory>
     ensures { OnOk result (report.new ≡ report.old ++ bound_text scene.now bound.now) }
 {
     report.append(b"driver ")?;
@@ -231,18 +232,4 @@ fn push_bound(report: &mut Buf, scene: &Scene, bound: &Bound) -> Result<(), Memo
     report.append(b" ")?;
     report.append(driver_name(bound.driver).as_bytes())?;
     report.append(b"\n")
-}
-
-/// Adds the drivers, in the order in which they were bound.
-pub(crate) fn push_drivers(
-    report: &mut Buf,
-    scene: &Scene,
-    bindings: &[Bound],
-) -> Result<(), Memory>
-    ensures { OnOk result (report.new ≡ report.old ++ drivers_section scene.now bindings.now) }
-{
-    for bound in bindings {
-        push_bound(report, scene, bound)?;
-    }
-    Ok(())
 }

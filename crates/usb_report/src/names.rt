@@ -1,21 +1,13 @@
 //! The names of devices and URBs in a report.
 ghost use Rattle.std.specs.Prelude.{◌≡◌, ◌++◌, [], OnOk};
 ghost use Rattle.usb_statement.specs.Printed.{role_text};
-ghost use Rattle.usb_report.specs.Names.{device_name, role_name, has_for, role_in, bound_name, own_name_or, urb_name};
+ghost use Rattle.usb_report.specs.Names.{device_name, role_name, bound_name, own_name_or, urb_name};
 
 use usb_bind::Bound;
+use usb_class::role_of;
 use usb_scene::Scene;
 use usb_text::push_number;
-use usb_types::{Buf, Memory, Role, UrbId};
-
-const ROLES: [Role; 6] = [
-    Role::In,
-    Role::Note,
-    Role::Read0,
-    Role::Read1,
-    Role::Write,
-    Role::Ctl,
-];
+use usb_types::{Buf, Memory, Role};
 
 /// Adds the name of a device of the scene.
 pub(crate) fn push_device(report: &mut Buf, scene: &Scene, device: u32) -> Result<(), Memory>
@@ -67,25 +59,6 @@ pub(crate) fn push_role(
     report.append(role_text(role).as_bytes())
 }
 
-fn has_for(urb: u32, bound: &Bound, role: Role) -> bool
-    ensures { result ≡ has_for urb bound.now role }
-{
-    match bound.urb(role) {
-        Some(UrbId(number)) => number == urb,
-        None => false,
-    }
-}
-
-// The purpose that a binding has an URB for.
-fn role_in(urb: u32, bound: &Bound) -> Option<Role>
-    ensures { result ≡ role_in urb bound.now }
-{
-    ROLES
-        .iter()
-        .copied()
-        .find(|role| has_for(urb, bound, *role))
-}
-
 // The name of a driver's URB, after the first binding that has it.
 fn push_bound_urb(
     report: &mut Buf,
@@ -96,7 +69,7 @@ fn push_bound_urb(
     ensures { OnOk result (report.new ≡ report.old ++ bound_name scene.now urb bindings.now) }
 {
     for bound in bindings {
-        if let Some(role) = role_in(urb, bound) {
+        if let Some(role) = role_of(bound, urb) {
             return push_role(report, scene, bound.device, bound.interface, role);
         }
     }

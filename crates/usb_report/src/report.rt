@@ -7,9 +7,11 @@ ghost use Rattle.usb_report.specs.Names.{device_name, urb_name};
 ghost use Rattle.usb_report.specs.Report.{outcome_text, given_text, given_section, has_none, end_text, received_section, text_of};
 
 use crate::calls::push_threads;
-use crate::listing::{push_drivers, push_list};
+use crate::listing::push_list;
 use crate::names::{push_device, push_urb};
+use crate::telling::push_drivers;
 use usb_bind::Bound;
+use usb_class::Told;
 use usb_line::{CallMade, EndReceived, Given, Outcome};
 use usb_prepare::Found;
 use usb_scene::Scene;
@@ -134,8 +136,8 @@ fn push_received(report: &mut Buf, scene: &Scene, ends: &[EndReceived]) -> Resul
     Ok(())
 }
 
-/// Adds the report of a run: what the devices are found to be, the calls that were made, what was given back, the drivers
-/// that were bound, and what the endpoints received.
+/// Adds the report of a run: what the devices are found to be, the calls that were made, what was given back, what the
+/// drivers tell, and what the endpoints received.
 pub fn push_report(
     report: &mut Buf,
     scene: &Scene,
@@ -143,15 +145,16 @@ pub fn push_report(
     bindings: &[Bound],
     made: &[CallMade],
     given: &[Given],
+    told: &[Told],
     ends: &[EndReceived],
 ) -> Result<(), Memory>
     requires devices { length found.now < 2 ^ 32 }
     requires threads { length scene.now.threads < 2 ^ 32 }
-    ensures { OnOk result (report.new ≡ report.old ++ text_of scene.now found.now bindings.now made.now given.now ends.now) }
+    ensures { OnOk result (report.new ≡ report.old ++ text_of scene.now found.now bindings.now made.now given.now told.now ends.now) }
 {
     push_list(report, scene, found)?;
     push_threads(report, scene, made)?;
     push_all_given(report, scene, bindings, given)?;
-    push_drivers(report, scene, bindings)?;
+    push_drivers(report, scene, bindings, told)?;
     push_received(report, scene, ends)
 }

@@ -7,7 +7,7 @@ use Rattle.usb_scene.specs.Read.{scene_of}
 use Rattle.usb_prepare.specs.Below.{below}
 use Rattle.usb_prepare.specs.Ends.{ends_of}
 use Rattle.usb_prepare.specs.Prepared.{bindings_of, found_of}
-use Rattle.usb_line.specs.Run.{Doing, Giveback, IsRun}
+use Rattle.usb_line.specs.Run.{Doing, Giveback, IsRun, drivers_told}
 use Rattle.usb_line.specs.Line.{Progress, IsLineRun}
 use Rattle.usb_line.specs.Given.{given_of}
 use Rattle.usb_line.specs.Outcome.{made_of, end_of}
@@ -22,11 +22,11 @@ use Rattle.usb_run.specs.Io.{ReadsAll, WritesSome}
 abbrev pub list_of : Scene → List ℕ
 list_of s = list_text s (found_of s)
 
--- the report of a run: what its devices are found to be, its calls with their answers, its givebacks, the drivers, and
--- what its endpoints received
+-- the report of a run: what its devices are found to be, its calls with their answers, its givebacks, what its drivers tell,
+-- and what its endpoints received
 abbrev pub report_of : Scene → List Doing → List Giveback → List ℕ
 report_of s doings rounds =
-    text_of s (found_of s) (bindings_of s) (map made_of doings) (map (given_of s) rounds) (map (end_of s rounds) (below (ends_of s)))
+    text_of s (found_of s) (bindings_of s) (map made_of doings) (map (given_of s) rounds) (drivers_told s rounds) (map (end_of s rounds) (below (ends_of s)))
 
 -- the text is the report of the scene's run in line order. That run is a run of the scene
 pub record IsReport (s : Scene) (text : List ℕ) : Type 0 where

@@ -42,6 +42,7 @@ pub fn serial(alloc: Global, scene: &Scene, text: &mut Buf) -> Result<(), Memory
         board.bindings(),
         outcome.made.items(),
         outcome.given.items(),
+        outcome.told.items(),
         outcome.ends.items(),
     )?;
     Ok(())

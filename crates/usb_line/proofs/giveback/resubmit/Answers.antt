@@ -9,12 +9,12 @@ use Rattle.usb_line.specs.Prepared.{machine_of}
 use Rattle.usb_line.specs.Run.{moved_in, resent, handled_by}
 use Rattle.usb_line.specs.Steps.{told_code}
 use Rattle.usb_line.specs.Back.{given_after}
-use Rattle.usb_line.proofs.Stepping.{enters, two_more, number_back, submit, rest, link, acted, submit_next, is_zero_code}
+use Rattle.usb_line.proofs.Stepping.{enters, two_more, number_again, submit, rest, link, acted, submit_next, is_zero_code}
 use Rattle.usb_line.proofs.giveback.resubmit.Goals as goal
 
 pub returns-in-Fault-clause-resubmitted : goal.returns-in-Fault-clause-resubmitted
 returns-in-Fault-clause-resubmitted c = λ s h r says stands can at number is.
-    let same = sym number ∙ number_back s h r can in
+    let same = sym number ∙ number_again s h r can in
     let one = enters _ _ _ _ _ c.enter.ensures.entered s (given_after h r) (submit s h r can says) refl (λ i. Submit record { 0 = sym at i } (same i)) stands (submit_next s h r can says is) tt in
     let told : c.code_in-code.result ≡ says = c.code_in-code.ensures ∙ ap told_code one.0 in
     let refused : says ≡ Fault c.in-Fault.field-0 = sym told ∙ c.in-Fault.is in
@@ -29,7 +29,7 @@ returns-in-Fault-clause-resubmitted c = λ s h r says stands can at number is.
 
 pub returns-clause-resubmitted : goal.returns-clause-resubmitted
 returns-clause-resubmitted c = λ s h r says stands can at number is.
-    let same = sym number ∙ number_back s h r can in
+    let same = sym number ∙ number_again s h r can in
     let one = enters _ _ _ _ _ c.enter.ensures.entered s (given_after h r) (submit s h r can says) refl (λ i. Submit record { 0 = sym at i } (same i)) stands (submit_next s h r can says is) tt in
     let told : c.code_in-code.result ≡ says = c.code_in-code.ensures ∙ ap told_code one.0 in
     let accepted : says ≡ Zero = sym told ∙ is_zero_code c.code_in-code.result c.in_default.not-Fault in

@@ -1,22 +1,32 @@
 use Rattle.std.proofs.Common.{refl, map, sym, ap, ◌∙◌}
-use Rattle.usb_line.specs.Line.{at_start, start}
+use Rattle.usb_line.specs.Line.{begun, start}
 use Rattle.usb_line.specs.Calls.{IsCalled}
 use Rattle.usb_line.specs.Outcome.{made_of}
 use Rattle.usb_line.proofs.Telling.{ends_told}
 use Rattle.usb_line.proofs.line.run_line.Goals as goal
 
+pub submit_reads-requires : goal.submit_reads-requires
+submit_reads-requires c = record { scene = c.args.scene.now; may = record { good = c.requires.good; shows = c.in_ok-run.ensures; pass = c.main_pass_of-main.ensures } }
+
 pub make_calls-requires-clause-underway : goal.make_calls-requires-clause-underway
-make_calls-requires-clause-underway c = record { far = at_start; in_line = start; all = refl; told = c.of-made.ensures ∙ c.new.ensures.items; shows = c.in_ok-run.ensures }
+make_calls-requires-clause-underway c = record {
+  far = begun c.args.scene.now;
+  in_line = start;
+  all = refl;
+  told = c.of-made.ensures ∙ c.new.ensures.items;
+  shows = c.in_ok-submit_reads.ensures c.args.scene.now record { good = c.requires.good; shows = c.in_ok-run.ensures; pass = c.main_pass_of-main.ensures };
+}
 
 pub returns : goal.returns
 returns c =
     let s = c.args.scene.now in let u = c.in_ok-make_calls.ensures in
     let called : IsCalled s u.far c.make_calls.new.run = record { good = c.requires.good; in_line = u.in_line; all = u.all; shows = u.shows } in
-    let closed = c.in_ok-close.ensures s u.far called c.main_pass_of.ensures in
+    let closed = c.in_ok-close.ensures s u.far called c.main_pass_of-main.ensures in
     record {
       far = closed.far;
       line = closed.line;
       made = c.made.view_is ∙ (u.told ∙ ap (map made_of) (sym closed.same));
       given = closed.shows.came_back;
+      told = c.in_ok-told.ensures s closed.far.rounds closed.shows.cores;
       ends = c.in_ok-received.ensures ∙ ends_told s closed.far c.close.new.self closed.shows;
     }

@@ -17,14 +17,14 @@ pub returns : goal.returns
 returns c =
     let s = c.args.scene.now in let p = c.in_ok-devices.ensures in let o = c.in_ok-outcome.ensures in
     let found = c.items.ensures ∙ p.found in let bound = c.bindings-2.ensures.bindings ∙ p.bound in
-    let made = c.items-2.ensures ∙ o.made in let given = c.items-3.ensures ∙ o.given in let ends = c.items-4.ensures ∙ o.ends in
+    let made = c.items-2.ensures ∙ o.made in let given = c.items-3.ensures ∙ o.given in let told = c.items-4.ensures ∙ o.told in let ends = c.items-5.ensures ∙ o.ends in
     record {
-      text = text_of s c.items.result.now c.bindings-2.result.now c.items-2.result.now c.items-3.result.now c.items-4.result.now;
+      text = text_of s c.items.result.now c.bindings-2.result.now c.items-2.result.now c.items-3.result.now c.items-4.result.now c.items-5.result.now;
       printed = record {
         far = o.far;
         line = o.line;
         run = line_is_run s c.requires o.far o.line;
-        report = λ j. text_of s (found j) (bound j) (made j) (given j) (ends j);
+        report = λ j. text_of s (found j) (bound j) (made j) (given j) (told j) (ends j);
       };
       added = c.in_ok-push_report.ensures;
     }

@@ -10,4 +10,4 @@ returns c =
     let end = c.index_mut.result.now in
     let at : slice_get run.urbs.items c.args.urb ≡ Some row = slice_get-get_or run.urbs.items c.args.urb row c.requires.known ∙ ap Some (sym c.index_mut-2.ensures.value) in
     let there : slice_get run.ends.items c.args.ep ≡ Some end = slice_get-get_or run.ends.items c.args.ep end c.requires.there ∙ ap Some (sym c.index_mut.ensures.value) in
-    record { row = row; at = at; end = end; there = there; rows = refl; ends_so = refl; same_devices = refl; same = record { plain = refl; told = refl; host = refl } }
+    record { row = row; at = at; end = end; there = there; rows = refl; ends_so = refl; same_devices = refl; same = record { plain = refl; told = refl; host = refl; cores = refl } }

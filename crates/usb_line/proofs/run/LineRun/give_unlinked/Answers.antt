@@ -21,15 +21,19 @@ returns-in_default-clause-given c = λ s f good shows first. let out = c.take_ou
 
 pub bring_back-requires-clause-known : goal.bring_back-requires-clause-known
 bring_back-requires-clause-known c = let q = c.requires in let out = c.take_out.ensures in
-    (can_bring q.scene q.far c.args.self.now c.take_out.new.self q.shows q.good c.args.urb out.row out.at out.rows (λ i. length (out.same_ends i).items) out.same.plain).known
+    (can_bring q.scene q.far c.args.self.now c.take_out.new.self q.shows q.good c.args.urb out.row out.at out.rows (λ i. length (out.same_ends i).items) out.same.plain out.same.cores).known
 
 pub bring_back-requires-clause-there : goal.bring_back-requires-clause-there
 bring_back-requires-clause-there c = let q = c.requires in let out = c.take_out.ensures in
-    (can_bring q.scene q.far c.args.self.now c.take_out.new.self q.shows q.good c.args.urb out.row out.at out.rows (λ i. length (out.same_ends i).items) out.same.plain).there
+    (can_bring q.scene q.far c.args.self.now c.take_out.new.self q.shows q.good c.args.urb out.row out.at out.rows (λ i. length (out.same_ends i).items) out.same.plain out.same.cores).there
 
 pub bring_back-requires-clause-home : goal.bring_back-requires-clause-home
 bring_back-requires-clause-home c = let q = c.requires in let out = c.take_out.ensures in
-    (can_bring q.scene q.far c.args.self.now c.take_out.new.self q.shows q.good c.args.urb out.row out.at out.rows (λ i. length (out.same_ends i).items) out.same.plain).home
+    (can_bring q.scene q.far c.args.self.now c.take_out.new.self q.shows q.good c.args.urb out.row out.at out.rows (λ i. length (out.same_ends i).items) out.same.plain out.same.cores).home
+
+pub bring_back-requires-clause-core : goal.bring_back-requires-clause-core
+bring_back-requires-clause-core c = let q = c.requires in let out = c.take_out.ensures in
+    (can_bring q.scene q.far c.args.self.now c.take_out.new.self q.shows q.good c.args.urb out.row out.at out.rows (λ i. length (out.same_ends i).items) out.same.plain out.same.cores).core
 
 pub bring_back-requires-clause-window : goal.bring_back-requires-clause-window
 bring_back-requires-clause-window c = let q = c.requires in let out = c.take_out.ensures in

@@ -1,28 +1,21 @@
-use Rattle.std.proofs.Common.{◌≡◌, ◌<◌, Some, get_or, length, refl, sym, ap, ◌∙◌, subst}
+use Rattle.std.proofs.Common.{◌≡◌, refl, sym, ap, ◌∙◌}
 use Rattle.std.specs.Prelude.{slice_get}
-use Rattle.std.proofs.lemmas.Option.{slice_get-get_or}
 use Rattle.std.proofs.lemmas.Result.{IfOk-weaker}
 use Rattle.usb_line.specs.declared.made.Deed.TheVariants as deed
+use Rattle.usb_line.specs.Sent.{said_of}
 use Rattle.usb_line.proofs.Calling.{is_there, may_make, may_hub}
 use Rattle.usb_line.proofs.run.LineRun.make.Goals as goal
-
-pub bounds-items-urb : goal.bounds-items-urb
-bounds-items-urb c =
-    let s = c.args.scene.now in let f = c.requires.can.far in let run = c.args.self.now in let d = deed.Submit c.in-Submit.urb in
-    let may = may_make s f c.args.thread c.args.call.now run c.pass_of_thread-pass.result d c.requires.can.may (c.in-Submit.ensures c.args.scene.now c.requires.bound) c.pass_of_thread-pass.ensures in
-    subst (λ l. c.in-Submit.urb < length l) (sym c.items.ensures) (is_there s f c.args.thread c.args.call.now run c.pass_of_thread-pass.result d may)
 
 pub submit-requires : goal.submit-requires
 submit-requires c =
     let s = c.args.scene.now in let u = c.in-Submit.urb in
     let may = may_make s c.requires.can.far c.args.thread c.args.call.now c.args.self.now c.pass_of_thread-pass.result (deed.Submit u) c.requires.can.may (c.in-Submit.ensures c.args.scene.now c.requires.bound) c.pass_of_thread-pass.ensures in
-    let near : u < length s.urbs = is_there s c.requires.can.far c.args.thread c.args.call.now c.args.self.now c.pass_of_thread-pass.result (deed.Submit u) may in
     record {
       scene = s;
       far = c.requires.can.far;
       thread = c.args.thread;
       may = may;
-      is = slice_get-get_or s.urbs u c.index-items-urb.result near ∙ ap Some (sym (c.index-items-urb.is ∙ ap (λ l. get_or l u c.index-items-urb.result) c.items.ensures));
+      is = sym (c.said_of-said.ensures ∙ ap (λ l. said_of (slice_get l u)) c.items.ensures);
     }
 
 pub take_down-requires : goal.take_down-requires
@@ -47,9 +40,7 @@ pub returns-in-Submit : goal.returns-in-Submit
 returns-in-Submit c =
     let s = c.args.scene.now in let u = c.in-Submit.urb in
     let may = may_make s c.requires.can.far c.args.thread c.args.call.now c.args.self.now c.pass_of_thread-pass.result (deed.Submit u) c.requires.can.may (c.in-Submit.ensures c.args.scene.now c.requires.bound) c.pass_of_thread-pass.ensures in
-    let near : u < length s.urbs = is_there s c.requires.can.far c.args.thread c.args.call.now c.args.self.now c.pass_of_thread-pass.result (deed.Submit u) may in
-    let at : slice_get s.urbs u ≡ Some c.index-items-urb.result
-    = slice_get-get_or s.urbs u c.index-items-urb.result near ∙ ap Some (sym (c.index-items-urb.is ∙ ap (λ l. get_or l u c.index-items-urb.result) c.items.ensures)) in
+    let at : said_of (slice_get s.urbs u) ≡ c.said_of-said.result = sym (c.said_of-said.ensures ∙ ap (λ l. said_of (slice_get l u)) c.items.ensures) in
     IfOk-weaker c.submit.result _ _ (λ told is f may. is s f c.args.thread
     (may_make s f c.args.thread c.args.call.now c.args.self.now c.pass_of_thread-pass.result (deed.Submit u) may (c.in-Submit.ensures c.args.scene.now c.requires.bound) c.pass_of_thread-pass.ensures) at) c.submit.ensures
 

@@ -24,5 +24,5 @@ returns c =
       devices_so = refl;
       same_ends = refl;
       same_urbs = refl;
-      same = record { plain = refl; told = refl; host = refl };
+      same = record { plain = refl; told = refl; host = refl; cores = refl };
     }

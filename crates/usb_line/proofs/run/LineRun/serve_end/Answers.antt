@@ -4,7 +4,7 @@ use Rattle.usb_line.specs.Turned.{TakesOut, FirstAwake}
 use Rattle.usb_line.proofs.Lookups.{none_of}
 use Rattle.usb_line.proofs.Pendings.{pending_near}
 use Rattle.usb_line.proofs.Moving.{passes_over}
-use Rattle.usb_line.proofs.Turning.{not_missing, has_window, has_size, has_device, moved_can_bring, by_waiting, steady_waiting, by_ending, falls_ending}
+use Rattle.usb_line.proofs.Turning.{not_missing, has_window, has_size, has_device, moved_can_bring, by_waiting, keeps_waiting, by_ending, falls_ending}
 use Rattle.usb_line.proofs.run.LineRun.serve_end.Goals as goal
 
 pub returns-in_default-clause-served : goal.returns-in_default-clause-served
@@ -48,7 +48,7 @@ fall_asleep-requires-clause-known c = let q = c.requires.unmarked in let run = c
 
 pub returns-in_default-move_on-clause-falls : goal.returns-in_default-move_on-clause-falls
 returns-in_default-move_on-clause-falls c = let q = c.requires.unmarked in let run = c.args.self.now in
-    steady_waiting q.scene q.good q.far run c.take_out.new.self q.shows c.args.ep c.in-Some.urb (subst (FirstAwake q.scene q.far c.args.ep) c.in-Some.is (c.first_awake.ensures q.scene q.far q.shows))
+    keeps_waiting q.scene q.good q.far run c.take_out.new.self q.shows c.args.ep c.in-Some.urb (subst (FirstAwake q.scene q.far c.args.ep) c.in-Some.is (c.first_awake.ensures q.scene q.far q.shows))
     c.in-Some-take_out.t (subst (λ (o : Option Transfer). TakesOut run c.take_out.new.self c.in-Some.urb o) c.in-Some-take_out.is c.take_out.ensures)
     c.move_on.new.self c.move_on.new.t c.move_on.result c.move_on.ensures (sym (none_of c.move_on.result c.in_default-move_on.not-Some)) c.fall_asleep.new.self c.fall_asleep.ensures
 
@@ -75,6 +75,12 @@ bring_back-requires-clause-home c = let q = c.requires.unmarked in let run = c.a
     (moved_can_bring q.scene q.good q.far run c.take_out.new.self q.shows c.args.ep c.in-Some.urb (subst (FirstAwake q.scene q.far c.args.ep) c.in-Some.is (c.first_awake.ensures q.scene q.far q.shows))
     c.in-Some-take_out.t (subst (λ (o : Option Transfer). TakesOut run c.take_out.new.self c.in-Some.urb o) c.in-Some-take_out.is c.take_out.ensures)
     c.move_on.new.self c.move_on.new.t c.move_on.result c.move_on.ensures).home
+
+pub bring_back-requires-clause-core : goal.bring_back-requires-clause-core
+bring_back-requires-clause-core c = let q = c.requires.unmarked in let run = c.args.self.now in
+    (moved_can_bring q.scene q.good q.far run c.take_out.new.self q.shows c.args.ep c.in-Some.urb (subst (FirstAwake q.scene q.far c.args.ep) c.in-Some.is (c.first_awake.ensures q.scene q.far q.shows))
+    c.in-Some-take_out.t (subst (λ (o : Option Transfer). TakesOut run c.take_out.new.self c.in-Some.urb o) c.in-Some-take_out.is c.take_out.ensures)
+    c.move_on.new.self c.move_on.new.t c.move_on.result c.move_on.ensures).core
 
 pub returns-clause-falls : goal.returns-clause-falls
 returns-clause-falls c = let q = c.requires.unmarked in let run = c.args.self.now in

@@ -1,4 +1,4 @@
-use Rattle.std.proofs.Common.{◌<◌, Bool, refl, sym, ap, ◌∙◌, subst, arith, add-one}
+use Rattle.std.proofs.Common.{◌<◌, Bool, sym, ap, ◌∙◌, subst, arith, add-one}
 use Rattle.usb_prepare.specs.Ends.{ends_of}
 use Rattle.usb_line.specs.Line.{marked_of, Passes, none}
 use Rattle.usb_line.specs.Turned.{EndServed, TurnsFall}
@@ -6,7 +6,7 @@ use Rattle.usb_line.proofs.Turns.{passed}
 use Rattle.usb_line.proofs.run.LineRun.serve_ends.Goals as goal
 
 pub loop-ep-init : goal.loop-ep-init
-loop-ep-init c = record { steady = refl; so_far = λ s f good shows unmarked. (f, none, shows) }
+loop-ep-init c = record { keeps = omega arith; so_far = λ s f good shows unmarked. (f, none, shows) }
 
 pub serve_end-requires-clause-unmarked : goal.serve_end-requires-clause-unmarked
 serve_end-requires-clause-unmarked c = let q = c.requires in let at = c.loop-ep.invariant.so_far q.scene q.far q.good q.shows q.none in
@@ -27,7 +27,7 @@ returns-then-branch-clause-served c = λ s f good shows unmarked.
 
 pub loop-ep-preserved : goal.loop-ep-preserved
 loop-ep-preserved c = record {
-  steady = subst (λ (b : Bool). TurnsFall b c.loop-ep.self c.serve_end.new.self) c.if-branch.false c.in_ok-serve_end.ensures.falls ∙ c.loop-ep.invariant.steady;
+  keeps = let keeps = subst (λ (b : Bool). TurnsFall b c.loop-ep.self c.serve_end.new.self) c.if-branch.false c.in_ok-serve_end.ensures.falls in let before = c.loop-ep.invariant.keeps in omega arith;
   so_far = λ s f good shows unmarked.
       let at = c.loop-ep.invariant.so_far s f good shows unmarked in
       let by = subst (λ (b : Bool). EndServed s at.0 c.loop-ep.ep b c.serve_end.new.self) c.if-branch.false

@@ -28,15 +28,15 @@ returns-in-Some c = λ s f i may is.
     let u = c.args.urb.0 in
     let seen = sym c.in-Some.is ∙ (c.fault.ensures s f may.shows ∙ ap (shape_fault (shape_at s (home s u))) c.header-t.ensures) in
     made_fault s f i c.args.call.now c.args.self.now c.args.pass u may c.in-Some.errno
-    (fault_is s f i c.args.call.now c.args.self.now c.args.pass u may c.args.said.now is (Some c.in-Some.errno) seen)
+    (fault_is s f i c.args.call.now c.args.self.now c.args.pass u may c.args.said is (Some c.in-Some.errno) seen)
 
 pub returns : goal.returns
 returns c = λ s f i may is.
     let u = c.args.urb.0 in
     let none : c.fault.result ≡ None = none_of c.fault.result c.in_default.not-Some in
     let seen = sym none ∙ (c.fault.ensures s f may.shows ∙ ap (shape_fault (shape_at s (home s u))) c.header-t.ensures) in
-    let fault = fault_is s f i c.args.call.now c.args.self.now c.args.pass u may c.args.said.now is None seen in
+    let fault = fault_is s f i c.args.call.now c.args.self.now c.args.pass u may c.args.said is None seen in
     let t : Transfer = record c.header-t.result { buf = c.in_ok-t.field-0 } in
-    let sent : t ≡ fresh s u c.args.call.now = (λ j. record (c.header-t.ensures j) { buf = c.in_ok-t.ensures j }) ∙ sym (fresh_is s f i c.args.call.now c.args.self.now c.args.pass u may c.args.said.now is) in
+    let sent : t ≡ fresh s u c.args.call.now = (λ j. record (c.header-t.ensures j) { buf = c.in_ok-t.ensures j }) ∙ sym (fresh_is s f i c.args.call.now c.args.self.now c.args.pass u may c.args.said is) in
     made_sent s f i c.args.call.now c.args.self.now c.args.pass u may t sent fault c.send.result c.send.new.self
     (c.send.ensures s f (may_send s f i c.args.call.now c.args.self.now c.args.pass u may t sent fault))

@@ -12,4 +12,4 @@ returns-clause-woken c s f old =
     let after : LineRun = record run { ends = with_items run.ends c.wake_all.new.ends } in
     let all : c.wake_all.new.ends ≡ map awake run.ends.items = c.wake_all.ensures ∙ ap (map awake) c.deref_mut.ensures.value in
     let long : length c.wake_all.new.ends ≡ run.ends.len = ap length all ∙ (length-map run.ends.items awake ∙ sym run.ends.ok.0) in
-    shows_woken s f run after old refl (with_items_is run.ends c.wake_all.new.ends long ∙ all) refl refl refl refl
+    shows_woken s f run after old refl (with_items_is run.ends c.wake_all.new.ends long ∙ all) refl refl refl refl refl

@@ -1,0 +1,6 @@
+use Rattle.std.proofs.Common.{◌≡◌, drop}
+use Rattle.usb_line.specs.Prepared.{owner_from}
+use Rattle.usb_line.proofs.owner.owner_in.Given as goal
+
+abbrev pub invariant-loop-place : goal.invariant-loop-place
+invariant-loop-place l = owner_from 0 l.bindings l.urb ≡ owner_from l.place (drop l.place l.bindings) l.urb
