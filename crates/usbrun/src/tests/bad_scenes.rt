@@ -358,7 +358,7 @@ fn words_that_are_not_known_here(rt: HostRuntime) -> Result<(), Fail> {
         ("unplug d", "8: Word"),
         ("reset d", "8: Word"),
         ("unbind d 0", "8: Word"),
-        ("led d 0 02", "8: Word"),
+        ("led d 0 02", "8: Name"),
         ("write d 0 00", "8: Word"),
         ("coding d 0 9600 0 0 8", "8: Word"),
         ("control d 0 03", "8: Word"),

@@ -180,3 +180,37 @@ fn what_lines_give_is_in_the_scene(rt: HostRuntime) -> Result<(), Fail> {
     assert_eq!(rt; calls[0].target, target);
     Ok(())
 }
+
+#[test]
+fn lights_are_set_on_an_interface(rt: HostRuntime) -> Result<(), Fail> {
+    let rows = [
+        ("led", "6: Form"),
+        ("led k", "6: Form"),
+        ("led k 0", "6: Form"),
+        ("led k 0 2", "6: Form"),
+        ("led k 0 002", "6: Form"),
+        ("led k 0 0g", "6: Form"),
+        ("led k 0 -", "6: Form"),
+        ("led k 0 02 00", "6: Form"),
+        ("led K 0 02", "6: Form"),
+        ("led k x 02", "6: Form"),
+        ("led k 1234567890 02", "6: Form"),
+        ("led k.0.ctl 02", "6: Form"),
+        ("led d 0 02", "6: Name"),
+        ("led d 256 02", "6: Name"),
+        ("led x 0 02", "6: Name"),
+        ("led k 256 02", "6: Limit"),
+        ("led k 999999999 02", "6: Limit"),
+        (
+            "led k 255 fF\nled k 000 0a # caps\nled p 0 02\nfoo",
+            "9: Word",
+        ),
+        ("write k 0 00", "6: Word"),
+        ("coding k 0 9600 0 0 8", "6: Word"),
+    ];
+    check_bad(
+        &rt,
+        "scene 1\ndevice d raw\ndevice k keyboard\ndevice p printer\nthread t\n",
+        &rows,
+    )
+}

@@ -169,7 +169,7 @@ fn the_gallery_of_devices_of_a_class(rt: HostRuntime) -> Result<(), Fail> {
     let rows = [
         (
             "# A boot keyboard, as a host finds it: its configuration (34 bytes in all), interface 0 of class 03, subclass 01 and\n# protocol 01, the HID descriptor, and the interrupt IN endpoint 81 with packets of 8 bytes.\nscene 1\ndevice kbd keyboard\nconfig 09022200010100A032 090400000103010100 092111010001223F00 0705810308000A\nthread t\nblock kbd.0.in\nunblock kbd.0.in\nkill kbd.0.ctl\nunlink kbd.0.in\nunlink kbd.0.read0\nunlink kbd.1.in\n",
-            "device kbd 1209:0001\ninterface 0 hid 03/01/01 usbkbd\nthread t\n7 block kbd.0.in ok\n8 unblock kbd.0.in ok\n9 kill kbd.0.ctl none\n10 unlink kbd.0.in -EIDRM\n11 unlink kbd.0.read0 -ENODEV\n12 unlink kbd.1.in -ENODEV\ndriver kbd 0 usbkbd\n",
+            "device kbd 1209:0001\ninterface 0 hid 03/01/01 usbkbd\nthread t\n7 block kbd.0.in ok\n8 unblock kbd.0.in ok\n9 kill kbd.0.ctl none\n10 unlink kbd.0.in -EINPROGRESS\n11 unlink kbd.0.read0 -ENODEV\n12 unlink kbd.1.in -ENODEV\ngiven\nkbd.0.in -ECONNRESET 0 rest -\ndriver kbd 0 usbkbd\n",
         ),
         (
             "# A serial port of the CDC ACM class. The union descriptor (24, 06) of interface 0 names interface 1 as its data\n# interface; the driver takes both, and has its URBs by the first.\nscene 1\ndevice m acm\nconfig 090243000201008032 090400000102020100 0524001001 0524010001 04240202 0524060001 07058203080010 09040100020A000000 07050102400000 07058102400000\nthread t\nkill m.0.note\nkill m.0.read1\nkill m.1.read1\n",
@@ -181,7 +181,7 @@ fn the_gallery_of_devices_of_a_class(rt: HostRuntime) -> Result<(), Fail> {
         ),
         (
             "# One device with four interfaces: a keyboard, a mouse, which no driver takes, storage, and a printer. Its descriptor gives\n# the vendor 046D and the product C52B. A raw device beside it is not listed.\nscene 1\ndevice box keyboard\ndesc 12010002 00000040 6D042BC5 11120102 0001\nconfig 09025000040100A032 090400000103010100 0705810308000A 090401000103010200 0705820308000A 090402000208065000 07058302400000 07050302400000 090403000107010100 07050402400000\ndevice d raw\nep 81 bulk 64 0\nanswer 81 p:0102\nurb a d 81 len 8\nthread t\nsubmit a\nserve\nkill box.3.write\n",
-            "device box 046D:C52B\ninterface 0 hid 03/01/01 usbkbd\ninterface 1 hid 03/01/02 none\ninterface 2 storage 08/06/50 none\ninterface 3 printer 07/01/01 usblp\nthread t\n12 submit a 0\n14 kill box.3.write none\ngiven\na 0 2 rest 0102\ndriver box 0 usbkbd\ndriver box 3 usblp\n",
+            "device box 046D:C52B\ninterface 0 hid 03/01/01 usbkbd\ninterface 1 hid 03/01/02 none\ninterface 2 storage 08/06/50 none\ninterface 3 printer 07/01/01 usblp\nthread t\n12 submit a 0\n14 kill box.3.write none\ngiven\na 0 2 rest 0102\nbox.0.in -ENOENT 0 rest -\ndriver box 0 usbkbd\ndriver box 3 usblp\n",
         ),
         (
             "# Devices that cannot be enumerated, each with the fault that the host finds first.\nscene 1\ndevice none keyboard          # no configuration: the device stalls\ndevice brief keyboard\ndesc 12010002000000           # seven bytes, of which eight are asked for\ndevice long acm               # its length says 19, and 18 bytes are read\ndesc 130100020000004009120100000100000001\ndevice cut keyboard           # 34 bytes are promised, and 33 come\nconfig 09022200010100A032 090400000103010100 092111010001223F00 070581030800\ndevice stray printer          # an endpoint in front of every interface\nconfig 09021000010100C000 07050102400000\ndevice twice printer          # the same endpoint twice\nconfig 09022000010100C000 090400000207010200 07050102400000 07050102400000\n",
@@ -190,6 +190,37 @@ fn the_gallery_of_devices_of_a_class(rt: HostRuntime) -> Result<(), Fail> {
         (
             "# Interfaces that no driver gets: what it needs is missing, its other interface is taken, or the device does not answer\n# the driver's requests.\nscene 1\ndevice a keyboard             # the endpoint is not an interrupt endpoint\nconfig 09021900010100A032 090400000103010100 0705810208000A\ndevice b keyboard             # the first request of the driver is not answered; a stall would be passed over\nconfig 09021900010100A032 090400000103010100 0705810308000A\nanswer 00 error\ndevice c acm                  # two ports with one data interface\nconfig 09024A00030100A032 090400000102020100 0524060001 07058203080010 09040100020A000000 07050102400000 07058102400000 090402000102020100 0524060001 07058303080010\n",
             "device a 1209:0001\ninterface 0 hid 03/01/01 none\ndevice b 1209:0001\ninterface 0 hid 03/01/01 fail\ndevice c 1209:0001\ninterface 0 comm 02/02/01 cdc_acm\ninterface 1 cdcdata 0A/00/00 cdc_acm\ninterface 2 comm 02/02/01 busy\ndriver c 0 cdc_acm\n",
+        ),
+    ];
+    check_reports(&rt, "", "", Status::Done, "", &rows)
+}
+
+#[test]
+fn the_gallery_of_keyboards(rt: HostRuntime) -> Result<(), Fail> {
+    let rows = [
+        (
+            "# Somebody types \"Hi\" on a boot keyboard and sets caps lock. Its configuration (34 bytes in all) has interface 0 of class\n# 03, subclass 01 and protocol 01, the HID descriptor, and the interrupt IN endpoint 81 with packets of 8 bytes. Each\n# packet is a report: modifiers, a reserved byte, six codes. At the nak it has nothing to say, until the next serve.\nscene 1\ndevice kbd keyboard\nconfig 09022200010100A032 090400000103010100 092111010001223F00 0705810308000A\nanswer 81 p:0200000000000000 p:02000B0000000000 p:0200000000000000 p:0000000000000000 nak\nanswer 81 p:00000C0000000000 p:0000000000000000\nthread t\nserve\nled kbd 0 02\nserve\n",
+            "device kbd 1209:0001\ninterface 0 hid 03/01/01 usbkbd\nthread t\n11 led kbd 0 0\ngiven\nkbd.0.in 0 8 again 0 0200000000000000\nkbd.0.in 0 8 again 0 02000B0000000000\nkbd.0.in 0 8 again 0 0200000000000000\nkbd.0.in 0 8 again 0 0000000000000000\nkbd.0.ctl 0 1 rest -\nkbd.0.in 0 8 again 0 00000C0000000000\nkbd.0.in 0 8 again 0 0000000000000000\nkbd.0.in -ENOENT 0 rest -\ndriver kbd 0 usbkbd\ndown E1 leftshift\ndown 0B h\nup 0B h\nup E1 leftshift\nled 02\ndown 0C i\nup 0C i\n",
+        ),
+        (
+            "# Six keys are down, then more than a report can tell: each code is 01, and the codes before stay. Two of them go up with\n# the next report, and the others with the last.\nscene 1\ndevice kbd keyboard\nconfig 09022200010100A032 090400000103010100 092111010001223F00 0705810308000A\nanswer 81 p:0000040506070809 p:0200010101010101 p:0000040506070000 p:0000000000000000\nthread t\nserve\n",
+            "device kbd 1209:0001\ninterface 0 hid 03/01/01 usbkbd\nthread t\ngiven\nkbd.0.in 0 8 again 0 0000040506070809\nkbd.0.in 0 8 again 0 0200010101010101\nkbd.0.in 0 8 again 0 0000040506070000\nkbd.0.in 0 8 again 0 0000000000000000\nkbd.0.in -ENOENT 0 rest -\ndriver kbd 0 usbkbd\ndown 04 a\ndown 05 b\ndown 06 c\ndown 07 d\ndown 08 e\ndown 09 f\ndown E1 leftshift\nup E1 leftshift\nup 08 e\nup 09 f\nup 04 a\nup 05 b\nup 06 c\nup 07 d\n",
+        ),
+        (
+            "# An endpoint with packets of four bytes: a report comes in two. A short packet ends the read with what came, which is no\n# report; one of five bytes is more than the endpoint may send. The driver reads on after both.\nscene 1\ndevice kbd keyboard\nconfig 09022200010100A032 090400000103010100 092111010001223F00 0705810304000A\nanswer 81 p:00000400 p:00000000 p:0000 p:0000000000 p:00000000 p:0000 p:00000000 p:00000000\nthread t\nserve\n",
+            "device kbd 1209:0001\ninterface 0 hid 03/01/01 usbkbd\nthread t\ngiven\nkbd.0.in 0 8 again 0 0000040000000000\nkbd.0.in 0 2 again 0 0000\nkbd.0.in -EOVERFLOW 0 again 0 -\nkbd.0.in 0 6 again 0 000000000000\nkbd.0.in 0 8 again 0 0000000000000000\nkbd.0.in -ENOENT 0 rest -\ndriver kbd 0 usbkbd\ndown 04 a\nup 04 a\n",
+        ),
+        (
+            "# The driver reads on after an error on the bus, and rests after a stall: what the keyboard says then is not read. The\n# kill gets the buffer that rests, whose number is the first of the drivers' own.\nscene 1\ndevice kbd keyboard\nconfig 09022200010100A032 090400000103010100 092111010001223F00 0705810308000A\nanswer 81 p:0000040000000000 error p:0000040500000000 stall p:0000000000000000\nthread t\nserve\nkill kbd.0.in\nserve\n",
+            "device kbd 1209:0001\ninterface 0 hid 03/01/01 usbkbd\nthread t\n9 kill kbd.0.in buffer 2000000\ngiven\nkbd.0.in 0 8 again 0 0000040000000000\nkbd.0.in -EPROTO 0 again 0 -\nkbd.0.in 0 8 again 0 0000040500000000\nkbd.0.in -EPIPE 0 rest -\ndriver kbd 0 usbkbd\ndown 04 a\ndown 05 b\n",
+        ),
+        (
+            "# What changed from one report to the next: first modifiers, then keys that went up in the order of the old report, then\n# keys that went down in the order of the new one. A code that stands twice counts once; the reserved byte and the codes\n# 00 to 03 tell nothing.\nscene 1\ndevice kbd keyboard\nconfig 09022200010100A032 090400000103010100 092111010001223F00 0705810308000A\nanswer 81 p:0000040400000000 p:0000050400000000 p:0000040500000000 p:0100050000000000 p:8100000006040000 p:00FF020301000000\nthread t\nserve\n",
+            "device kbd 1209:0001\ninterface 0 hid 03/01/01 usbkbd\nthread t\ngiven\nkbd.0.in 0 8 again 0 0000040400000000\nkbd.0.in 0 8 again 0 0000050400000000\nkbd.0.in 0 8 again 0 0000040500000000\nkbd.0.in 0 8 again 0 0100050000000000\nkbd.0.in 0 8 again 0 8100000006040000\nkbd.0.in 0 8 again 0 00FF020301000000\nkbd.0.in -ENOENT 0 rest -\ndriver kbd 0 usbkbd\ndown 04 a\ndown 05 b\ndown E0 leftctrl\nup 04 a\ndown E7 rightgui\nup 05 b\ndown 06 c\ndown 04 a\nup E0 leftctrl\nup E7 rightgui\nup 06 c\nup 04 a\n",
+        ),
+        (
+            "# Two keyboards. Each driver's read has a number of its own. While the second one's read is killed, a turn gives it back\n# alone: the first keyboard's packet waits. The host goes down, and the first one's read is not submitted again.\nscene 1\ndevice a keyboard\nconfig 09022200010100A032 090400000103010100 092111010001223F00 0705810308000A\nanswer 81 p:0000040000000000\ndevice b keyboard\nconfig 09022200010100A032 090400000103010100 092111010001223F00 0705810308000A\nanswer 81 p:0000050000000000\nthread hub\nkill b.0.in\nserve\ndown\nup\nserve\n",
+            "device a 1209:0001\ninterface 0 hid 03/01/01 usbkbd\ndevice b 1209:0001\ninterface 0 hid 03/01/01 usbkbd\nthread hub\n11 kill b.0.in buffer 2000001\n13 down ok\n14 up ok\ngiven\nb.0.in -ENOENT 0 rest -\na.0.in 0 8 again 0 0000040000000000\na.0.in -ESHUTDOWN 0 rest -\ndriver a 0 usbkbd\ndown 04 a\ndriver b 0 usbkbd\n",
         ),
     ];
     check_reports(&rt, "", "", Status::Done, "", &rows)
@@ -221,6 +252,10 @@ fn the_gallery_of_devices_as_lists(rt: HostRuntime) -> Result<(), Fail> {
         (
             "# Interfaces that no driver gets: what it needs is missing, its other interface is taken, or the device does not answer\n# the driver's requests.\nscene 1\ndevice a keyboard             # the endpoint is not an interrupt endpoint\nconfig 09021900010100A032 090400000103010100 0705810208000A\ndevice b keyboard             # the first request of the driver is not answered; a stall would be passed over\nconfig 09021900010100A032 090400000103010100 0705810308000A\nanswer 00 error\ndevice c acm                  # two ports with one data interface\nconfig 09024A00030100A032 090400000102020100 0524060001 07058203080010 09040100020A000000 07050102400000 07058102400000 090402000102020100 0524060001 07058303080010\n",
             "device a 1209:0001\ninterface 0 hid 03/01/01 none\ndevice b 1209:0001\ninterface 0 hid 03/01/01 fail\ndevice c 1209:0001\ninterface 0 comm 02/02/01 cdc_acm\ninterface 1 cdcdata 0A/00/00 cdc_acm\ninterface 2 comm 02/02/01 busy\n",
+        ),
+        (
+            "# Somebody types \"Hi\" on a boot keyboard and sets caps lock. Its configuration (34 bytes in all) has interface 0 of class\n# 03, subclass 01 and protocol 01, the HID descriptor, and the interrupt IN endpoint 81 with packets of 8 bytes. Each\n# packet is a report: modifiers, a reserved byte, six codes. At the nak it has nothing to say, until the next serve.\nscene 1\ndevice kbd keyboard\nconfig 09022200010100A032 090400000103010100 092111010001223F00 0705810308000A\nanswer 81 p:0200000000000000 p:02000B0000000000 p:0200000000000000 p:0000000000000000 nak\nanswer 81 p:00000C0000000000 p:0000000000000000\nthread t\nserve\nled kbd 0 02\nserve\n",
+            "device kbd 1209:0001\ninterface 0 hid 03/01/01 usbkbd\n",
         ),
     ];
     check_lists(&rt, "", "", &rows)
