@@ -1,0 +1,4 @@
+pub mod Streams
+pub mod Standing
+pub mod Told
+pub mod Examples

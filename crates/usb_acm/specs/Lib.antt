@@ -1,0 +1,5 @@
+pub mod Notifications
+pub mod Serial
+pub mod Acm
+pub mod Requests
+pub mod Told

@@ -1,0 +1,85 @@
+-- The events of a printer, of all that its URBs brought back, and what becomes of a job's transfer.
+use Rattle.std.specs.Prelude.{ℕ, ◌+◌, ◌-◌, min, ◌&&◌, ◌==◌, Bool, true, false, if◌then◌else◌, List, [], ◌∷◌, ◌++◌, take, drop, length, Option, Some, None, slice_index}
+use Rattle.std.specs.List.{flat_map}
+use Rattle.usb_types.specs.declared.errno.Errno.{Errno}
+use Rattle.usb_types.specs.declared.errno.Errno.TheVariants.{ENOENT, ECONNRESET, ESHUTDOWN}
+use Rattle.usb_types.specs.declared.errno.Code.{Code}
+use Rattle.usb_types.specs.declared.errno.Code.TheVariants.{Zero, Fault}
+use Rattle.usb_types.specs.declared.urb.Role.{Role}
+use Rattle.usb_types.specs.declared.urb.Role.TheVariants.{Write, Ctl}
+use Rattle.usb_types.specs.declared.urb.Action.{Action}
+use Rattle.usb_types.specs.declared.urb.Action.TheVariants.{Rest, Again, Ask}
+use Rattle.usb_machine.specs.declared.transfer.Transfer.{Transfer}
+use Rattle.usb_printer.specs.declared.event.Event.{Event}
+use Rattle.usb_printer.specs.declared.event.Event.TheVariants.{Job, Port}
+use Rattle.usb_printer.specs.Ids.{id_events}
+
+-- an URB of the printer came back: what it is for, its status, and its transfer as it was moved
+pub record Completion : Type 0 where
+  pub role : Role
+  pub status : Code
+  pub transfer : Transfer
+
+abbrev pub completion : Role → Code → Transfer → Completion
+completion role status t = record { role = role; status = status; transfer = t }
+
+-- the moved bytes are the first ones of the window
+abbrev pub moved_of : Transfer → List ℕ
+moved_of t = take t.actual (drop t.from t.buf)
+
+-- a job of this many bytes begins with a window of at most 8,192
+abbrev pub first_window : ℕ → ℕ
+first_window n = min n 8192
+
+-- the bytes of a job that its windows so far do not reach
+abbrev pub rest_of : Transfer → ℕ
+rest_of t = length t.buf - (t.from + t.len)
+
+-- a job ends with its last window, and at its first fault
+abbrev pub is_over : Code → Transfer → Bool
+is_over Zero t = rest_of t == 0
+is_over (Fault errno) t = true
+
+-- a job that is over has a line: the bytes of the windows before, and what was moved of the last
+abbrev pub job_events : Code → Transfer → List Event
+job_events status t = if is_over status t then Job t.number (t.from + t.actual) status ∷ [] else []
+
+-- GET_PORT_STATUS (printer class 1.1, section 4.2.2)
+abbrev pub asks_port : Option (List ℕ) → Bool
+asks_port None = false
+asks_port (Some setup) = slice_index setup 0 == 0xA1 && slice_index setup 1 == 0x01
+
+-- an answer of just one byte is the port's status
+abbrev pub port_in : List ℕ → List Event
+port_in (status ∷ []) = Port status ∷ []
+port_in moved = []
+
+abbrev pub port_events : Code → Transfer → List Event
+port_events Zero t = if asks_port t.setup then port_in (moved_of t) else []
+port_events (Fault errno) t = []
+
+-- what an URB that came back tells
+abbrev pub told_by : Role → Code → Transfer → List Event
+told_by Write status t = job_events status t
+told_by Ctl status t = port_events status t
+told_by role status t = []
+
+abbrev pub events_of : Completion → List Event
+events_of c = told_by c.role c.status c.transfer
+
+-- the events of a printer: its id, and what each completion tells
+abbrev pub print_events : List ℕ → List Completion → List Event
+print_events id done = id_events id ++ flat_map events_of done
+
+-- the status of an URB that was unlinked, killed or shut down
+abbrev pub is_unlink : Errno → Bool
+is_unlink ECONNRESET = true
+is_unlink ENOENT = true
+is_unlink ESHUTDOWN = true
+is_unlink errno = false
+
+-- behind a window that went well comes the next one, and behind a fault the question, unless the driver's own side made it
+abbrev pub action_of : Role → Code → Transfer → Action
+action_of Write Zero t = if rest_of t == 0 then Rest else Again (t.from + t.len) (first_window (rest_of t))
+action_of Write (Fault errno) t = if is_unlink errno then Rest else Ask
+action_of role status t = Rest
