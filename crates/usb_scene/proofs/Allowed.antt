@@ -100,8 +100,8 @@ driven_device s (Some d) h = go (is_of is_classed (slice_get s.devices d)) refl 
     go false e h = cc
 
 -- a call on an interface
-pub interface_built : (s : Scene) (code : ℕ) (device : List ℕ) (interface : ℕ) → code ≡ 23 → interface ≤ 255 → is_some (driven_number s device) ≡ true
+pub interface_built : (s : Scene) (code : ℕ) (device : List ℕ) (interface : ℕ) → 23 ≤ code → code ≤ 30 → interface ≤ 255 → is_some (driven_number s device) ≡ true
     → IsBuilt s code (interface_target s device interface)
-interface_built s code device interface same low h =
+interface_built s code device interface some most low h =
     let d = driven_device s (device_number s device) h in
-    subst (IsBuilt s code) (sym (ap (λ o. unwrap_or (option_map (λ n. target.Interface n interface) o) target.Nothing) d.1)) (same, low, d.2)
+    subst (IsBuilt s code) (sym (ap (λ o. unwrap_or (option_map (λ n. target.Interface n interface) o) target.Nothing) d.1)) (some, most, low, d.2)

@@ -10,7 +10,7 @@ use Rattle.usb_statement.specs.declared.keyword.UrbCall.TheVariants as on
 use Rattle.usb_statement.specs.declared.keyword.BareCall.{BareCall}
 use Rattle.usb_statement.specs.declared.keyword.BareCall.TheVariants as bare
 use Rattle.usb_statement.specs.declared.interface_call.InterfaceCall.{InterfaceCall}
-use Rattle.usb_statement.specs.declared.interface_call.InterfaceCall.TheVariants.{Led}
+use Rattle.usb_statement.specs.declared.interface_call.InterfaceCall.TheVariants as made
 use Rattle.usb_scene.specs.Growth.{urb_call_code, bare_call_code, interface_call_code}
 
 pub submit_number : unwrap_or (code_at call_table (codes "submit")) 0 ≡ 1
@@ -34,4 +34,11 @@ bare_call_number bare.Up = refl
 
 pub interface_call_number : (call : InterfaceCall) → unwrap_or (code_at call_table (interface_word_text (interface_word call))) 0 ≡ interface_call_code call
 unfolding call_table
-interface_call_number (Led lights) = refl
+interface_call_number (made.Led lights) = refl
+interface_call_number (made.Write bytes) = refl
+interface_call_number (made.Coding rate stop parity bits) = refl
+interface_call_number (made.Control lines) = refl
+interface_call_number (made.SendBreak ms) = refl
+interface_call_number (made.Print bytes) = refl
+interface_call_number made.Status = refl
+interface_call_number made.SoftReset = refl

@@ -18,12 +18,12 @@ use Rattle.usb_statement.specs.declared.statement.Statement.{Statement}
 use Rattle.usb_statement.specs.declared.statement.Statement.TheVariants as say
 use Rattle.usb_statement.specs.Statements.{is_empty, keyword_said}
 use Rattle.usb_scene.specs.WellFormed.{is_on, held_on}
-use Rattle.usb_scene.specs.Rules.{SoFar, in_devices, is_low, may_stand, urb_target, interface_target, has_call_left, given_len, len_in, again_in, raises, withdraws, held_now, replies_of, replies_in, all_replies, calls_in, all_calls, calls_of, last_thread}
-use Rattle.usb_scene.specs.Growth.{bare_device, end_said, with_end, with_bytes, with_port, with_answers, urb_said, plain_call, urb_call_code, bare_call_code, with_call, scene_calls, last_changed, scene_with, replies_said, calls_said}
+use Rattle.usb_scene.specs.Rules.{SoFar, in_devices, is_low, may_stand, urb_target, interface_target, has_call_left, carries_within, given_len, len_in, again_in, raises, withdraws, held_now, replies_of, replies_in, all_replies, calls_in, all_calls, calls_of, last_thread}
+use Rattle.usb_scene.specs.Growth.{bare_device, end_said, with_end, with_bytes, with_port, with_answers, urb_said, plain_call, urb_call_code, bare_call_code, interface_call, with_call, scene_calls, last_changed, scene_with, replies_said, calls_said}
 use Rattle.usb_scene.specs.Counts.{next_count, changed, counts_behind, AreFair, AreCounted, IsDraft}
 use Rattle.usb_scene.specs.Named.{found_with, called_target}
 use Rattle.usb_scene.proofs.Allowed.{IsAllowed}
-use Rattle.usb_scene.proofs.HeldCounts.{urb_call, interface_call, IsQuiet, quiet_submit, quiet_alone, quiet_interface, held_quiet, fair_quiet, held_same, held_other, fair_said, next_most}
+use Rattle.usb_scene.proofs.HeldCounts.{urb_call, IsQuiet, quiet_submit, quiet_alone, quiet_interface, held_quiet, fair_quiet, held_same, held_other, fair_said, next_most}
 use Rattle.usb_scene.proofs.Naming.{found_behind}
 use Rattle.usb_scene.proofs.Scenes.{length-on_last, last_push, calls_grown, sum_by-on_last, sum_by-on_last_same, sum_by-joined, not_empty}
 use Rattle.usb_scene.proofs.Targets.{same_urb, on_turned}
@@ -199,7 +199,7 @@ room_with s r c line (say.Alone call) room place allowed =
     call_made s.scene (plain_call line (bare_call_code call) target.Nothing None None) r c (not_empty s.scene.threads place) allowed.within room
 room_with s r c line (say.OnInterface call device interface) room place allowed =
     call_made s.scene (interface_call line (interface_target s.scene device interface) call) r c (not_empty s.scene.threads place)
-    (and_parts (has_call_left s.scene) (nat_le interface 255) allowed.within).0 room
+    (and_parts (has_call_left s.scene) (nat_le interface 255) (and_parts (has_call_left s.scene && nat_le interface 255) (carries_within call) allowed.within).0).0 room
 
 -- what a line leaves of a draft
 pub draft_with : (s : SoFar) (r c line : ℕ) (count new : Target → ℕ) (find next : List ℕ → Option ℕ) (said : Statement) → IsDraft s.scene r c count find

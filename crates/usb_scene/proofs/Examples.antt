@@ -6,7 +6,7 @@ use Rattle.usb_text.specs.Words.{is_blank}
 use Rattle.usb_xfer.specs.declared.script.Kind.TheVariants.{Raw, Keyboard, Printer}
 use Rattle.usb_xfer.specs.declared.script.What.TheVariants.{Ack, Packet}
 use Rattle.usb_statement.specs.declared.statement.Statement.TheVariants as say
-use Rattle.usb_statement.specs.declared.interface_call.InterfaceCall.TheVariants.{Led}
+use Rattle.usb_statement.specs.declared.interface_call.InterfaceCall.TheVariants as made
 use Rattle.usb_scene.specs.declared.cause.Cause.TheVariants as cause
 use Rattle.usb_scene.specs.Rules.{SoFar, statement_cause}
 use Rattle.usb_scene.specs.Growth.{nothing_said, grown_by}
@@ -51,14 +51,26 @@ a_packet_elsewhere = refl
 two_ports : statement_cause (grown_by printer 4 (say.Port 16)) (say.Port 24) ≡ Some cause.Twice
 two_ports = refl
 
-lights_of_a_raw_device : statement_cause (grown_by nothing_said 2 (say.Device (codes "d") Raw)) (say.OnInterface (Led 2) (codes "d") 0) ≡ Some cause.Name
+lights_of_a_raw_device : statement_cause (grown_by nothing_said 2 (say.Device (codes "d") Raw)) (say.OnInterface (made.Led 2) (codes "d") 0) ≡ Some cause.Name
 lights_of_a_raw_device = refl
 
-lights_of_interface_256 : statement_cause keyboard (say.OnInterface (Led 2) (codes "k") 256) ≡ Some cause.Limit
+lights_of_interface_256 : statement_cause keyboard (say.OnInterface (made.Led 2) (codes "k") 256) ≡ Some cause.Limit
 lights_of_interface_256 = refl
 
-lights_of_a_keyboard : statement_cause keyboard (say.OnInterface (Led 2) (codes "k") 255) ≡ None
+lights_of_a_keyboard : statement_cause keyboard (say.OnInterface (made.Led 2) (codes "k") 255) ≡ None
 lights_of_a_keyboard = refl
+
+three_stop_bits : statement_cause keyboard (say.OnInterface (made.Coding 9600 3 0 8) (codes "k") 0) ≡ Some cause.Limit
+three_stop_bits = refl
+
+a_coding : statement_cause keyboard (say.OnInterface (made.Coding 999999999 2 4 16) (codes "k") 0) ≡ None
+a_coding = refl
+
+a_long_break : statement_cause keyboard (say.OnInterface (made.SendBreak 65536) (codes "k") 0) ≡ Some cause.Limit
+a_long_break = refl
+
+a_question : statement_cause keyboard (say.OnInterface made.Status (codes "k") 0) ≡ None
+a_question = refl
 
 a_port_each : statement_cause (grown_by (grown_by printer 4 (say.Port 16)) 5 (say.Device (codes "q") Printer)) (say.Port 24) ≡ None
 a_port_each = refl

@@ -11,10 +11,10 @@ use Rattle.usb_statement.specs.declared.keyword.UrbCall.TheVariants as on
 use Rattle.usb_statement.specs.declared.keyword.BareCall.{BareCall}
 use Rattle.usb_statement.specs.declared.keyword.BareCall.TheVariants as bare
 use Rattle.usb_statement.specs.declared.interface_call.InterfaceCall.{InterfaceCall}
-use Rattle.usb_statement.specs.declared.interface_call.InterfaceCall.TheVariants.{Led}
+use Rattle.usb_statement.specs.declared.interface_call.InterfaceCall.TheVariants as made
 use Rattle.usb_scene.specs.WellFormed.{is_on, raised, withdrawn, held_on}
 use Rattle.usb_scene.specs.Rules.{raises, withdraws}
-use Rattle.usb_scene.specs.Growth.{plain_call, urb_call_code, bare_call_code, interface_call_code, carried_bytes}
+use Rattle.usb_scene.specs.Growth.{plain_call, urb_call_code, bare_call_code, interface_call}
 use Rattle.usb_scene.specs.Counts.{next_count, AreFair}
 use Rattle.usb_scene.proofs.Targets.{same_urb}
 
@@ -58,12 +58,15 @@ quiet_alone line bare.Serve = record { raises_none = λ u. zero_of (is_on u targ
 quiet_alone line bare.Down = record { raises_none = λ u. zero_of (is_on u target.Nothing); withdraws_none = λ u. zero_of (is_on u target.Nothing) }
 quiet_alone line bare.Up = record { raises_none = λ u. zero_of (is_on u target.Nothing); withdraws_none = λ u. zero_of (is_on u target.Nothing) }
 
--- a call on an interface
-abbrev pub interface_call : ℕ → Target → InterfaceCall → Call
-interface_call line v call = plain_call line (interface_call_code call) v None (carried_bytes call)
-
 pub quiet_interface : (line : ℕ) (v : Target) (call : InterfaceCall) → IsQuiet (interface_call line v call)
-quiet_interface line v (Led lights) = record { raises_none = λ u. zero_of (is_on u v); withdraws_none = λ u. zero_of (is_on u v) }
+quiet_interface line v (made.Led lights) = record { raises_none = λ u. zero_of (is_on u v); withdraws_none = λ u. zero_of (is_on u v) }
+quiet_interface line v (made.Write bytes) = record { raises_none = λ u. zero_of (is_on u v); withdraws_none = λ u. zero_of (is_on u v) }
+quiet_interface line v (made.Coding rate stop parity bits) = record { raises_none = λ u. zero_of (is_on u v); withdraws_none = λ u. zero_of (is_on u v) }
+quiet_interface line v (made.Control lines) = record { raises_none = λ u. zero_of (is_on u v); withdraws_none = λ u. zero_of (is_on u v) }
+quiet_interface line v (made.SendBreak ms) = record { raises_none = λ u. zero_of (is_on u v); withdraws_none = λ u. zero_of (is_on u v) }
+quiet_interface line v (made.Print bytes) = record { raises_none = λ u. zero_of (is_on u v); withdraws_none = λ u. zero_of (is_on u v) }
+quiet_interface line v made.Status = record { raises_none = λ u. zero_of (is_on u v); withdraws_none = λ u. zero_of (is_on u v) }
+quiet_interface line v made.SoftReset = record { raises_none = λ u. zero_of (is_on u v); withdraws_none = λ u. zero_of (is_on u v) }
 
 -- the rejects behind one call more
 pub held_push : (u : Target) (calls : List Call) (c : Call)

@@ -1,5 +1,6 @@
 mod Allowed
 mod CallCodes
+pub mod Carried
 mod Counting
 mod Devices
 mod Drafts
@@ -8,7 +9,7 @@ mod FirstBad
 mod HeldCounts
 mod Naming
 mod Placed
-mod PrintedScenes
+pub mod PrintedScenes
 mod Pushed
 mod Reading
 mod Scenes
@@ -17,5 +18,5 @@ mod Sound
 mod SoundCalls
 mod Splitting
 mod Targets
-mod WellRead
+pub mod WellRead
 mod Whole

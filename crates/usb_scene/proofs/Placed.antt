@@ -2,7 +2,7 @@
 use Rattle.std.proofs.Common.{◌≡◌, ℕ, true, List, [], ◌∷◌, Option, Some, None, refl, sym, ap, ◌∙◌}
 use Rattle.std.specs.Prelude.{not, ◌&&◌}
 use Rattle.std.specs.Option.{option_map}
-use Rattle.std.proofs.lemmas.Option.{option_and_then_some}
+use Rattle.std.proofs.lemmas.Option.{option_and_then_some, same_Some}
 use Rattle.usb_text.specs.Kinds.{number_of, byte_of, address_of}
 use Rattle.usb_text.proofs.Known.{some_if}
 use Rattle.usb_scene.specs.declared.scene.Scene.{Scene}
@@ -13,13 +13,14 @@ use Rattle.usb_statement.specs.declared.keyword.Keyword.TheVariants as word
 use Rattle.usb_statement.specs.declared.keyword.InterfaceWord.{InterfaceWord}
 use Rattle.usb_statement.specs.declared.keyword.InterfaceWord.TheVariants as called
 use Rattle.usb_statement.specs.declared.interface_call.InterfaceCall.{InterfaceCall}
-use Rattle.usb_statement.specs.declared.interface_call.InterfaceCall.TheVariants.{Led}
-use Rattle.usb_statement.specs.InterfaceCalls.{interface_word, interface_call_of}
+use Rattle.usb_statement.specs.declared.interface_call.InterfaceCall.TheVariants as made
+use Rattle.usb_statement.specs.InterfaceCalls.{interface_word, data_bits_of, interface_call_of}
 use Rattle.usb_statement.specs.Items.{items_of, are_items_of}
+use Rattle.usb_statement.specs.Kept.{kept_data, some_data}
 use Rattle.usb_statement.specs.Options.{options_of}
 use Rattle.usb_statement.specs.Setups.{setup_first, behind_setup}
 use Rattle.usb_statement.specs.UrbNames.{name_of, urb_name_of}
-use Rattle.usb_statement.specs.Statements.{is_empty, device_kind_of, end_of, kind_of, kept_data, sent_of, statement_of, keyword_said}
+use Rattle.usb_statement.specs.Statements.{is_empty, device_kind_of, end_of, kind_of, sent_of, statement_of, keyword_said}
 use Rattle.usb_scene.specs.Rules.{may_stand}
 
 map_some : {X Y : Type 0} (f : X → Y) (o : Option X) (y : Y) → option_map f o ≡ Some y → (x : X) × (o ≡ Some x) × (f x ≡ y)
@@ -33,7 +34,23 @@ said_as k x said e h = ap keyword_said (sym e) ∙ h
 -- a call on an interface is of its word
 word_said : (which : InterfaceWord) (texts : List (List ℕ)) (call : InterfaceCall) → interface_call_of which texts ≡ Some call → interface_word call ≡ which
 word_said called.Led (text ∷ []) call h =
-    let p = map_some (λ b. Led b) (byte_of text) call h in ap interface_word (sym p.2)
+    let p = map_some (λ b. made.Led b) (byte_of text) call h in ap interface_word (sym p.2)
+word_said called.Write texts call h =
+    let p = map_some (λ b. made.Write b) (some_data texts) call h in ap interface_word (sym p.2)
+word_said called.Coding (r ∷ s ∷ p ∷ b ∷ []) call h =
+    option_and_then_some _ (number_of r) call h (λ rate e g.
+    option_and_then_some _ (number_of s) call g (λ stop e2 g2.
+    option_and_then_some _ (number_of p) call g2 (λ parity e3 g3.
+    option_and_then_some _ (data_bits_of b) call g3 (λ bits e4 g4.
+    ap interface_word (sym (same_Some (made.Coding rate stop parity bits) call g4))))))
+word_said called.Control (text ∷ []) call h =
+    let p = map_some (λ b. made.Control b) (byte_of text) call h in ap interface_word (sym p.2)
+word_said called.SendBreak (text ∷ []) call h =
+    let p = map_some (λ n. made.SendBreak n) (number_of text) call h in ap interface_word (sym p.2)
+word_said called.Print texts call h =
+    let p = map_some (λ b. made.Print b) (some_data texts) call h in ap interface_word (sym p.2)
+word_said called.Status [] call h = ap interface_word (sym (same_Some made.Status call h))
+word_said called.SoftReset [] call h = ap interface_word (sym (same_Some made.SoftReset call h))
 word_said _ _ call h = cc
 
 pub first_said : (k : Keyword) (texts : List (List ℕ)) (said : Statement) → statement_of k texts ≡ Some said → keyword_said said ≡ k

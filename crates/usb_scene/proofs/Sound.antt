@@ -23,7 +23,7 @@ use Rattle.usb_statement.specs.declared.statement.Statement.TheVariants as say
 use Rattle.usb_statement.specs.Sayable.{IsEndAddress, is_end_kind, IsAnswerLine, IsSayable}
 use Rattle.usb_statement.specs.Statements.{is_empty, keyword_said}
 use Rattle.usb_scene.specs.WellFormed.{is_raw, is_printer, is_packet, IsDevice, HasEnd, IsUrb, IsBuilt, IsThread}
-use Rattle.usb_scene.specs.Rules.{SoFar, in_devices, last_device, is_of, takes, may_stand, fits_device, urb_target, interface_target, device_number, numbered_device, has_end, has_address, is_home, is_low, most_of, has_call_left, given_len, len_in, again_in, raises, held_now}
+use Rattle.usb_scene.specs.Rules.{SoFar, in_devices, last_device, is_of, takes, may_stand, fits_device, urb_target, interface_target, device_number, numbered_device, has_end, has_address, is_home, is_low, most_of, has_call_left, carries_within, given_len, len_in, again_in, raises, held_now}
 use Rattle.usb_scene.specs.Growth.{on_last, bare_device, end_said, with_end, with_bytes, with_port, with_answers, urb_said, urb_call_code, interface_call_code, last_changed, scene_with}
 use Rattle.usb_scene.specs.Counts.{AreFair}
 use Rattle.usb_scene.proofs.Allowed.{IsAllowed, urb_found, called_built, interface_built}
@@ -189,6 +189,8 @@ sound_with s line (say.OnUrb call urb) h place sayable allowed low =
 sound_with s line (say.Alone call) h place sayable allowed low =
     alone_sound s.scene line call (not_empty s.scene.threads place) low allowed.hub h
 sound_with s line (say.OnInterface call device interface) h place sayable allowed low =
-    let limits = and_parts (has_call_left s.scene) (nat_le interface 255) allowed.within in
-    let there = interface_built s.scene (interface_call_code call) device interface (interface_codes call) (leb-true interface 255 limits.1) allowed.named in
-    interface_sound s.scene line (interface_target s.scene device interface) call (not_empty s.scene.threads place) there low h
+    let limits = and_parts (has_call_left s.scene && nat_le interface 255) (carries_within call) allowed.within in
+    let few = and_parts (has_call_left s.scene) (nat_le interface 255) limits.0 in
+    let codes = interface_codes call in
+    let there = interface_built s.scene (interface_call_code call) device interface codes.0 codes.1 (leb-true interface 255 few.1) allowed.named in
+    interface_sound s.scene line (interface_target s.scene device interface) call (not_empty s.scene.threads place) there low sayable.carried limits.1 h

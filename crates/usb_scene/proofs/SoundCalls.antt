@@ -1,10 +1,10 @@
 -- A call without a cause against it leaves the scene well formed.
 use Rattle.std.proofs.Common.{◌≡◌, ℕ, ◌<◌, ◌≤◌, ◌^◌, inl, inr, true, false, cond, List, [], ◌∷◌, ◌++◌, length, zero, suc, Option, Some, None, refl, sym, ap, ◌∙◌, arith, subst, lit≤}
-use Rattle.std.specs.Prelude.{nat_lt, slice_get, codes}
+use Rattle.std.specs.Prelude.{◌≢◌, nat_le, nat_lt, slice_get, codes}
 use Rattle.std.specs.List.{All}
 use Rattle.std.specs.Option.{option_map}
 use Rattle.std.specs.Str.{bytes_eq}
-use Rattle.std.proofs.lemmas.Bool.{true≢false}
+use Rattle.std.proofs.lemmas.Bool.{and_parts, leb-true, true≢false}
 use Rattle.std.proofs.lemmas.List.Elements.{All-nil, All-push, All-weaker}
 use Rattle.usb_scene.specs.declared.scene.Scene.{Scene}
 use Rattle.usb_scene.specs.declared.scene.SceneDevice.{SceneDevice}
@@ -18,14 +18,15 @@ use Rattle.usb_statement.specs.declared.keyword.UrbCall.TheVariants as on
 use Rattle.usb_statement.specs.declared.keyword.BareCall.{BareCall}
 use Rattle.usb_statement.specs.declared.keyword.BareCall.TheVariants as bare
 use Rattle.usb_statement.specs.declared.interface_call.InterfaceCall.{InterfaceCall}
-use Rattle.usb_statement.specs.declared.interface_call.InterfaceCall.TheVariants.{Led}
+use Rattle.usb_statement.specs.declared.interface_call.InterfaceCall.TheVariants as made
 use Rattle.usb_statement.specs.declared.statement.Statement.TheVariants as say
+use Rattle.usb_statement.specs.Sayable.{IsCarried}
 use Rattle.usb_statement.specs.Statements.{is_empty}
-use Rattle.usb_scene.specs.WellFormed.{HasEnd, HasDrivers, IsUrb, IsBuilt, IsBuffer, CarriesBytes, IsCall, AreHeld, held_on, is_hub_call, IsThread, IsWellFormed}
-use Rattle.usb_scene.specs.Rules.{given_len, raises, withdraws, calls_of, last_thread, is_hub, may_call}
-use Rattle.usb_scene.specs.Growth.{on_last, plain_call, urb_call_code, bare_call_code, interface_call_code, carried_bytes, with_call, scene_calls}
+use Rattle.usb_scene.specs.WellFormed.{HasEnd, HasDrivers, IsUrb, IsBuilt, IsBuffer, CarriesBytes, CarriesBuffer, IsCoding, IsBreak, IsCall, AreHeld, held_on, is_hub_call, IsThread, IsWellFormed}
+use Rattle.usb_scene.specs.Rules.{given_len, carries_within, raises, withdraws, calls_of, last_thread, is_hub, may_call}
+use Rattle.usb_scene.specs.Growth.{on_last, plain_call, urb_call_code, bare_call_code, interface_call_code, interface_call, with_call, scene_calls}
 use Rattle.usb_scene.specs.Counts.{AreFair}
-use Rattle.usb_scene.proofs.HeldCounts.{urb_call, interface_call, quiet_submit, quiet_alone, quiet_interface, fair_quiet, fair_said}
+use Rattle.usb_scene.proofs.HeldCounts.{urb_call, quiet_submit, quiet_alone, quiet_interface, fair_quiet, fair_said}
 use Rattle.usb_scene.proofs.Scripts.{held_calmly, held_said, held_none}
 use Rattle.usb_scene.proofs.Scenes.{length-on_last}
 use Rattle.usb_statement.proofs.SaidWords.{option_map_some}
@@ -53,12 +54,25 @@ built_kept : (s t : Scene) → Keeps s t → (code : ℕ) (at : Target) → IsBu
 built_kept s t more code (target.Urb u) h = (h.0, h.1, omega (arith, h.2, more.urbs))
 built_kept s t more code target.Nothing h = h
 built_kept s t more code (target.Role d interface role) h = (h.0, h.1, h.2, subst (λ (ds : List SceneDevice). HasDrivers (slice_get ds d)) more.devices h.3)
-built_kept s t more code (target.Interface d interface) h = (h.0, h.1, subst (λ (ds : List SceneDevice). HasDrivers (slice_get ds d)) more.devices h.2)
+built_kept s t more code (target.Interface d interface) h = (h.0, h.1, h.2, subst (λ (ds : List SceneDevice). HasDrivers (slice_get ds d)) more.devices h.3)
 built_kept s t more code (target.Anchor n) h = h
 built_kept s t more code (target.Device n) h = h
 
 call_kept : (s t : Scene) → Keeps s t → (c : Call) → IsCall s c → IsCall t c
-call_kept s t more c h = record { line = h.line; built = built_kept s t more c.code c.target h.built; setup = h.setup; bytes = h.bytes; lights = h.lights }
+call_kept s t more c h = record {
+  line = h.line;
+  built = built_kept s t more c.code c.target h.built;
+  setup = h.setup;
+  bytes = h.bytes;
+  lights = h.lights;
+  written = h.written;
+  coding = h.coding;
+  lines = h.lines;
+  pause = h.pause;
+  printed = h.printed;
+  question = h.question;
+  soft_reset = h.soft_reset;
+}
 
 thread_kept : (s t : Scene) → Keeps s t → (thread : SceneThread) → IsThread s thread → IsThread t thread
 thread_kept s t more thread h = record { calls = All-weaker (IsCall s) (IsCall t) (call_kept s t more) thread.calls h.calls; held = h.held; hub = h.hub }
@@ -136,8 +150,22 @@ urb_codes on.Unpoison = (lit≤ tt, lit≤ tt)
 urb_codes on.Block = (lit≤ tt, lit≤ tt)
 urb_codes on.Unblock = (lit≤ tt, lit≤ tt)
 
-no_lights : (call : UrbCall) → urb_call_code call ≡ 23 → CarriesBytes 1 None
-no_lights call e = let few = (urb_codes call).1 in omega arith
+-- a call that is on no interface
+other_call : (s : Scene) (c : Call) → c.code ≤ 22 → c.line < 2 ^ 31 → IsBuilt s c.code c.target → (c.code ≢ 1 → c.setup ≡ None) → IsBuffer c.bytes → IsCall s c
+other_call s c few low there setup buffer = record {
+  line = low;
+  built = there;
+  setup = setup;
+  bytes = buffer;
+  lights = λ e. absurd (omega arith);
+  written = λ e. absurd (omega arith);
+  coding = λ e. absurd (omega arith);
+  lines = λ e. absurd (omega arith);
+  pause = λ e. absurd (omega arith);
+  printed = λ e. absurd (omega arith);
+  question = λ e. absurd (omega arith);
+  soft_reset = λ e. absurd (omega arith);
+}
 
 not_of_hub : (call : UrbCall) → is_hub_call (urb_call_code call) ≡ false
 not_of_hub on.Unlink = refl
@@ -157,9 +185,6 @@ bare_codes bare.Serve = lit≤ tt
 bare_codes bare.Down = lit≤ tt
 bare_codes bare.Up = lit≤ tt
 
-bare_lights : (call : BareCall) → bare_call_code call ≡ 23 → CarriesBytes 1 None
-bare_lights call e = let few = bare_codes call in omega arith
-
 -- a call of the hub stands in the hub's thread
 hub_free : (s : Scene) (call : BareCall) (thread : SceneThread) → may_call s (say.Alone call) ≡ true → last_thread s ≡ Some thread
     → bytes_eq thread.name (codes "hub") ≡ false → is_hub_call (bare_call_code call) ≡ false
@@ -176,7 +201,7 @@ pub submit_sound : (s : Scene) (line : ℕ) (v : Target) (setup bytes : Option (
 submit_sound s line v setup bytes some there few low h =
     let c = plain_call line 1 v setup bytes in
     let quiet = quiet_submit line v setup bytes in
-    call_sound s c some (record { line = low; built = there; setup = λ other. absurd (other refl); bytes = given_buffer bytes few; lights = λ other. cc })
+    call_sound s c some (other_call s c (lit≤ tt) low there (λ other. absurd (other refl)) (given_buffer bytes few))
     (λ x e p. record { held = held_calmly x.calls c quiet p.0.held; fair = fair_quiet x.calls c quiet p.1; hub = λ other. refl }) h
 
 pub urb_sound : (s : Scene) (line : ℕ) (v : Target) (call : UrbCall) → is_empty s.threads ≡ false → IsBuilt s (urb_call_code call) v → line < 2 ^ 31
@@ -185,7 +210,7 @@ pub urb_sound : (s : Scene) (line : ℕ) (v : Target) (call : UrbCall) → is_em
     → IsSound s → IsSound (scene_calls s (urb_call line v call))
 urb_sound s line v call some there low free held h =
     let c = urb_call line v call in
-    call_sound s c some (record { line = low; built = there; setup = λ other. refl; bytes = tt; lights = no_lights call })
+    call_sound s c some (other_call s c (let few = (urb_codes call).1 in omega arith) low there (λ other. refl) tt)
     (λ x e p.
     let same : calls_of (last_thread s) ≡ x.calls = ap calls_of e in
     let free_x = subst (λ (cs : List Call). cond (raises call) (nat_lt (held_on v cs) 100) true ≡ true) same free in
@@ -197,26 +222,166 @@ pub alone_sound : (s : Scene) (line : ℕ) (call : BareCall) → is_empty s.thre
 alone_sound s line call some low hub h =
     let c = plain_call line (bare_call_code call) target.Nothing None None in
     let quiet = quiet_alone line call in
-    call_sound s c some (record { line = low; built = bare_built s call; setup = λ other. refl; bytes = tt; lights = bare_lights call })
+    call_sound s c some (other_call s c (bare_codes call) low (bare_built s call) (λ other. refl) tt)
     (λ x e p. record { held = held_calmly x.calls c quiet p.0.held; fair = fair_quiet x.calls c quiet p.1; hub = hub_free s call x hub e }) h
 
 -- calls on interfaces
-pub interface_codes : (call : InterfaceCall) → interface_call_code call ≡ 23
-interface_codes (Led lights) = refl
+pub interface_codes : (call : InterfaceCall) → (23 ≤ interface_call_code call) × (interface_call_code call ≤ 30)
+interface_codes (made.Led lights) = (lit≤ tt, lit≤ tt)
+interface_codes (made.Write bytes) = (lit≤ tt, lit≤ tt)
+interface_codes (made.Coding rate stop parity bits) = (lit≤ tt, lit≤ tt)
+interface_codes (made.Control lines) = (lit≤ tt, lit≤ tt)
+interface_codes (made.SendBreak ms) = (lit≤ tt, lit≤ tt)
+interface_codes (made.Print bytes) = (lit≤ tt, lit≤ tt)
+interface_codes made.Status = (lit≤ tt, lit≤ tt)
+interface_codes made.SoftReset = (lit≤ tt, lit≤ tt)
 
-carried_buffer : (call : InterfaceCall) → IsBuffer (carried_bytes call)
-carried_buffer (Led lights) = lit≤ tt
+-- what it carries
+record Carries (c : Call) : Type 0 where
+  buffer : IsBuffer c.bytes
+  lights : c.code ≡ 23 → CarriesBytes 1 c.bytes
+  written : c.code ≡ 24 → CarriesBuffer c.bytes
+  coding : c.code ≡ 25 → IsCoding c
+  lines : c.code ≡ 26 → CarriesBytes 1 c.bytes
+  pause : c.code ≡ 27 → IsBreak c
+  printed : c.code ≡ 28 → CarriesBuffer c.bytes
+  question : c.code ≡ 29 → c.bytes ≡ None
+  soft_reset : c.code ≡ 30 → c.bytes ≡ None
 
-carried_lights : (call : InterfaceCall) → interface_call_code call ≡ 23 → CarriesBytes 1 (carried_bytes call)
-carried_lights (Led lights) e = refl
+carries : (line : ℕ) (v : Target) (call : InterfaceCall) → IsCarried call → carries_within call ≡ true → Carries (interface_call line v call)
+carries line v (made.Led lights) said within =
+    record {
+      buffer = lit≤ tt;
+      lights = λ e. refl;
+      written = λ e. absurd (omega arith);
+      coding = λ e. absurd (omega arith);
+      lines = λ e. absurd (omega arith);
+      pause = λ e. absurd (omega arith);
+      printed = λ e. absurd (omega arith);
+      question = λ e. absurd (omega arith);
+      soft_reset = λ e. absurd (omega arith);
+    }
+carries line v (made.Write bytes) said within =
+    let few = leb-true (length bytes) 16384 within in
+    record {
+      buffer = few;
+      lights = λ e. absurd (omega arith);
+      written = λ e. few;
+      coding = λ e. absurd (omega arith);
+      lines = λ e. absurd (omega arith);
+      pause = λ e. absurd (omega arith);
+      printed = λ e. absurd (omega arith);
+      question = λ e. absurd (omega arith);
+      soft_reset = λ e. absurd (omega arith);
+    }
+carries line v (made.Coding rate stop parity bits) said within =
+    let most = and_parts (nat_le stop 2) (nat_le parity 4) within in
+    record {
+      buffer = tt;
+      lights = λ e. absurd (omega arith);
+      written = λ e. absurd (omega arith);
+      coding = λ e. record { alone = refl; rate = said.rate_number; stop = leb-true stop 2 most.0; parity = leb-true parity 4 most.1; bits = said.bits_of_data };
+      lines = λ e. absurd (omega arith);
+      pause = λ e. absurd (omega arith);
+      printed = λ e. absurd (omega arith);
+      question = λ e. absurd (omega arith);
+      soft_reset = λ e. absurd (omega arith);
+    }
+carries line v (made.Control lines) said within =
+    record {
+      buffer = lit≤ tt;
+      lights = λ e. absurd (omega arith);
+      written = λ e. absurd (omega arith);
+      coding = λ e. absurd (omega arith);
+      lines = λ e. refl;
+      pause = λ e. absurd (omega arith);
+      printed = λ e. absurd (omega arith);
+      question = λ e. absurd (omega arith);
+      soft_reset = λ e. absurd (omega arith);
+    }
+carries line v (made.SendBreak ms) said within =
+    record {
+      buffer = tt;
+      lights = λ e. absurd (omega arith);
+      written = λ e. absurd (omega arith);
+      coding = λ e. absurd (omega arith);
+      lines = λ e. absurd (omega arith);
+      pause = λ e. record { alone = refl; ms = leb-true ms 65535 within };
+      printed = λ e. absurd (omega arith);
+      question = λ e. absurd (omega arith);
+      soft_reset = λ e. absurd (omega arith);
+    }
+carries line v (made.Print bytes) said within =
+    let few = leb-true (length bytes) 16384 within in
+    record {
+      buffer = few;
+      lights = λ e. absurd (omega arith);
+      written = λ e. absurd (omega arith);
+      coding = λ e. absurd (omega arith);
+      lines = λ e. absurd (omega arith);
+      pause = λ e. absurd (omega arith);
+      printed = λ e. few;
+      question = λ e. absurd (omega arith);
+      soft_reset = λ e. absurd (omega arith);
+    }
+carries line v made.Status said within =
+    record {
+      buffer = tt;
+      lights = λ e. absurd (omega arith);
+      written = λ e. absurd (omega arith);
+      coding = λ e. absurd (omega arith);
+      lines = λ e. absurd (omega arith);
+      pause = λ e. absurd (omega arith);
+      printed = λ e. absurd (omega arith);
+      question = λ e. refl;
+      soft_reset = λ e. absurd (omega arith);
+    }
+carries line v made.SoftReset said within =
+    record {
+      buffer = tt;
+      lights = λ e. absurd (omega arith);
+      written = λ e. absurd (omega arith);
+      coding = λ e. absurd (omega arith);
+      lines = λ e. absurd (omega arith);
+      pause = λ e. absurd (omega arith);
+      printed = λ e. absurd (omega arith);
+      question = λ e. absurd (omega arith);
+      soft_reset = λ e. refl;
+    }
+
+interface_is : (s : Scene) (line : ℕ) (v : Target) (call : InterfaceCall) → IsBuilt s (interface_call_code call) v → line < 2 ^ 31 → IsCarried call
+    → carries_within call ≡ true → IsCall s (interface_call line v call)
+interface_is s line v call there low said within =
+    let c = carries line v call said within in
+    record {
+      line = low;
+      built = there;
+      setup = λ other. refl;
+      bytes = c.buffer;
+      lights = c.lights;
+      written = c.written;
+      coding = c.coding;
+      lines = c.lines;
+      pause = c.pause;
+      printed = c.printed;
+      question = c.question;
+      soft_reset = c.soft_reset;
+    }
 
 no_hub_interface : (call : InterfaceCall) → is_hub_call (interface_call_code call) ≡ false
-no_hub_interface (Led lights) = refl
+no_hub_interface (made.Led lights) = refl
+no_hub_interface (made.Write bytes) = refl
+no_hub_interface (made.Coding rate stop parity bits) = refl
+no_hub_interface (made.Control lines) = refl
+no_hub_interface (made.SendBreak ms) = refl
+no_hub_interface (made.Print bytes) = refl
+no_hub_interface made.Status = refl
+no_hub_interface made.SoftReset = refl
 
 pub interface_sound : (s : Scene) (line : ℕ) (v : Target) (call : InterfaceCall) → is_empty s.threads ≡ false → IsBuilt s (interface_call_code call) v → line < 2 ^ 31
-    → IsSound s → IsSound (scene_calls s (interface_call line v call))
-interface_sound s line v call some there low h =
+    → IsCarried call → carries_within call ≡ true → IsSound s → IsSound (scene_calls s (interface_call line v call))
+interface_sound s line v call some there low said within h =
     let c = interface_call line v call in
     let quiet = quiet_interface line v call in
-    call_sound s c some (record { line = low; built = there; setup = λ other. refl; bytes = carried_buffer call; lights = carried_lights call })
+    call_sound s c some (interface_is s line v call there low said within)
     (λ x e p. record { held = held_calmly x.calls c quiet p.0.held; fair = fair_quiet x.calls c quiet p.1; hub = λ other. no_hub_interface call }) h

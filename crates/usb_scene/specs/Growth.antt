@@ -22,7 +22,7 @@ use Rattle.usb_statement.specs.declared.keyword.UrbCall.TheVariants as on
 use Rattle.usb_statement.specs.declared.keyword.BareCall.{BareCall}
 use Rattle.usb_statement.specs.declared.keyword.BareCall.TheVariants as bare
 use Rattle.usb_statement.specs.declared.interface_call.InterfaceCall.{InterfaceCall}
-use Rattle.usb_statement.specs.declared.interface_call.InterfaceCall.TheVariants.{Led}
+use Rattle.usb_statement.specs.declared.interface_call.InterfaceCall.TheVariants as made
 use Rattle.usb_scene.specs.Rules.{SoFar, device_number, urb_target, interface_target, is_short, len_in, again_in, replies_of}
 
 -- a scene of version 1 with nothing in it
@@ -101,11 +101,43 @@ bare_call_code bare.Down = 21
 bare_call_code bare.Up = 22
 
 abbrev pub interface_call_code : InterfaceCall → ℕ
-interface_call_code (Led lights) = 23
+interface_call_code (made.Led lights) = 23
+interface_call_code (made.Write bytes) = 24
+interface_call_code (made.Coding rate stop parity bits) = 25
+interface_call_code (made.Control lines) = 26
+interface_call_code (made.SendBreak ms) = 27
+interface_call_code (made.Print bytes) = 28
+interface_call_code made.Status = 29
+interface_call_code made.SoftReset = 30
 
 -- the bytes that a call on an interface carries, if it has any
 abbrev pub carried_bytes : InterfaceCall → Option (List ℕ)
-carried_bytes (Led lights) = Some (lights ∷ [])
+carried_bytes (made.Led lights) = Some (lights ∷ [])
+carried_bytes (made.Write bytes) = Some bytes
+carried_bytes (made.Coding rate stop parity bits) = None
+carried_bytes (made.Control lines) = Some (lines ∷ [])
+carried_bytes (made.SendBreak ms) = None
+carried_bytes (made.Print bytes) = Some bytes
+carried_bytes made.Status = None
+carried_bytes made.SoftReset = None
+
+-- its numbers in their order, then zeros
+abbrev pub carried_numbers : InterfaceCall → List ℕ
+carried_numbers (made.Coding rate stop parity bits) = rate ∷ stop ∷ parity ∷ bits ∷ []
+carried_numbers (made.SendBreak ms) = ms ∷ 0 ∷ 0 ∷ 0 ∷ []
+carried_numbers _ = 0 ∷ 0 ∷ 0 ∷ 0 ∷ []
+
+-- a call on an interface
+abbrev pub interface_call : ℕ → Target → InterfaceCall → Call
+interface_call line target call = record {
+  line = line;
+  code = interface_call_code call;
+  target = target;
+  second = None;
+  numbers = carried_numbers call;
+  setup = None;
+  bytes = carried_bytes call;
+}
 
 abbrev pub with_call : Call → SceneThread → SceneThread
 with_call call thread = record thread { calls = thread.calls ++ call ∷ [] }
@@ -136,7 +168,7 @@ scene_with scene line (say.Submit urb setup bytes) = scene_calls scene (plain_ca
 scene_with scene line (say.OnUrb call urb) = scene_calls scene (plain_call line (urb_call_code call) (urb_target scene urb) None None)
 scene_with scene line (say.Alone call) = scene_calls scene (plain_call line (bare_call_code call) target.Nothing None None)
 scene_with scene line (say.OnInterface call device interface) =
-    scene_calls scene (plain_call line (interface_call_code call) (interface_target scene device interface) None (carried_bytes call))
+    scene_calls scene (interface_call line (interface_target scene device interface) call)
 scene_with scene line statement = scene_declares scene statement
 
 -- whether the device whose lines are being read has its `port` line, behind a line

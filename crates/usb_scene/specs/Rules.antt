@@ -29,6 +29,8 @@ use Rattle.usb_statement.specs.declared.keyword.DeviceBytes.TheVariants.{Desc, C
 use Rattle.usb_statement.specs.declared.keyword.UrbCall.{UrbCall}
 use Rattle.usb_statement.specs.declared.keyword.UrbCall.TheVariants as on
 use Rattle.usb_statement.specs.declared.keyword.BareCall.TheVariants as bare
+use Rattle.usb_statement.specs.declared.interface_call.InterfaceCall.{InterfaceCall}
+use Rattle.usb_statement.specs.declared.interface_call.InterfaceCall.TheVariants as made
 use Rattle.usb_scene.specs.declared.cause.Cause.{Cause}
 use Rattle.usb_scene.specs.declared.cause.Cause.TheVariants as cause
 use Rattle.usb_statement.specs.Statements.{is_empty}
@@ -251,6 +253,15 @@ abbrev pub is_low : UrbName → Bool
 is_low (Scripted name) = true
 is_low (Driver device number role) = nat_le number 255
 
+-- what a call on an interface carries is within its limits: a buffer; a line coding, whose stop bits are 0 to 2 and whose
+-- parity is 0 to 4 (PSTN 1.2 §6.3.11); a break, whose milliseconds are two bytes (PSTN 1.2 §6.3.13)
+abbrev pub carries_within : InterfaceCall → Bool
+carries_within (made.Write bytes) = nat_le (length bytes) 16384
+carries_within (made.Coding rate stop parity bits) = nat_le stop 2 && nat_le parity 4
+carries_within (made.SendBreak ms) = nat_le ms 65535
+carries_within (made.Print bytes) = nat_le (length bytes) 16384
+carries_within _ = true
+
 -- one call more may stand in the scripts
 abbrev pub has_call_left : Scene → Bool
 has_call_left scene = nat_lt (all_calls scene) 4096
@@ -268,7 +279,7 @@ is_within scene (say.Thread name) = nat_lt (length scene.threads) 16
 is_within scene (say.Submit urb setup bytes) = has_call_left scene && nat_le (given_len bytes) 16384
 is_within scene (say.OnUrb call urb) = has_call_left scene && is_low urb && (if raises call then nat_lt (held_now scene urb) 100 else true)
 is_within scene (say.Alone call) = has_call_left scene
-is_within scene (say.OnInterface call device interface) = has_call_left scene && nat_le interface 255
+is_within scene (say.OnInterface call device interface) = has_call_left scene && nat_le interface 255 && carries_within call
 
 -- a reject that is withdrawn is one that this script holds
 abbrev pub holds_reject : Scene → Statement → Bool

@@ -1,6 +1,6 @@
 -- What holds of every scene that is read, beyond its text: numbers are those of things that are there, names stand
 -- once, sizes and counts are within their limits, and no script withdraws a reject that it does not hold.
-use Rattle.std.specs.Prelude.{ℕ, ◌≡◌, ◌≢◌, ◌-◌, ◌<◌, ◌≤◌, ◌^◌, ◌⊎◌, ◌==◌, ◌&&◌, Bool, true, false, if◌then◌else◌, List, [], ◌∷◌, ◌++◌, length, slice_get, sum_by, codes, Option, Some, None}
+use Rattle.std.specs.Prelude.{ℕ, ◌≡◌, ◌≢◌, ◌-◌, ◌<◌, ◌≤◌, ◌^◌, ◌⊎◌, ◌==◌, ◌&&◌, Bool, true, false, if◌then◌else◌, List, [], ◌∷◌, ◌++◌, length, slice_get, slice_index, sum_by, codes, Option, Some, None}
 use Rattle.std.specs.List.{All, list_any}
 use Rattle.std.specs.Str.{bytes_eq}
 use Rattle.usb_types.specs.declared.urb.Role.{Role}
@@ -8,6 +8,7 @@ use Rattle.usb_types.specs.declared.urb.Role.TheVariants as role
 use Rattle.usb_machine.specs.declared.layout.EndKind.TheVariants.{Bulk, Interrupt, Iso}
 use Rattle.usb_machine.specs.declared.layout.Shape.{Shape}
 use Rattle.usb_text.specs.Written.{AreBytes}
+use Rattle.usb_statement.specs.InterfaceCalls.{is_data_bits}
 use Rattle.usb_xfer.specs.Direction.{goes_in}
 use Rattle.usb_xfer.specs.declared.script.DeviceScript.{DeviceScript}
 use Rattle.usb_xfer.specs.declared.script.Kind.{Kind}
@@ -109,11 +110,11 @@ pub record IsUrb (s : Scene) (urb : SceneUrb) : Type 0 where
   pub len : urb.len ≤ 16384
   pub again : urb.again ≤ 63
 
--- the calls that are built: 1 to 7 on an URB, 2 to 7 on one of a driver, 23 on an interface, and 8, 21 and 22 on nothing
+-- the calls that are built: 1 to 7 on an URB, 2 to 7 on one of a driver, 23 to 30 on an interface, and 8, 21 and 22 on nothing
 abbrev pub IsBuilt : Scene → ℕ → Target → Type 0
 IsBuilt s code (target.Urb u) = (1 ≤ code) × (code ≤ 7) × (u < length s.urbs)
 IsBuilt s code (target.Role d interface r) = (2 ≤ code) × (code ≤ 7) × (interface ≤ 255) × HasDrivers (slice_get s.devices d)
-IsBuilt s code (target.Interface d interface) = (code ≡ 23) × (interface ≤ 255) × HasDrivers (slice_get s.devices d)
+IsBuilt s code (target.Interface d interface) = (23 ≤ code) × (code ≤ 30) × (interface ≤ 255) × HasDrivers (slice_get s.devices d)
 IsBuilt s code target.Nothing = (code ≡ 8) ⊎ (code ≡ 21) ⊎ (code ≡ 22)
 IsBuilt s code _ = ⊥
 
@@ -126,6 +127,24 @@ abbrev pub CarriesBytes : ℕ → Option (List ℕ) → Type 0
 CarriesBytes n None = ⊥
 CarriesBytes n (Some bytes) = length bytes ≡ n
 
+-- bytes that are there, and that a buffer holds
+abbrev pub CarriesBuffer : Option (List ℕ) → Type 0
+CarriesBuffer None = ⊥
+CarriesBuffer (Some bytes) = length bytes ≤ 16384
+
+-- the numbers of a line coding, and no bytes: the rate has four bytes, the others have one (PSTN 1.2 §6.3.11)
+pub record IsCoding (c : Call) : Type 0 where
+  pub alone : c.bytes ≡ None
+  pub rate : slice_index c.numbers 0 < 10 ^ 9
+  pub stop : slice_index c.numbers 1 ≤ 2
+  pub parity : slice_index c.numbers 2 ≤ 4
+  pub bits : is_data_bits (slice_index c.numbers 3) ≡ true
+
+-- the milliseconds of a break, which have two bytes (PSTN 1.2 §6.3.13), and no bytes
+pub record IsBreak (c : Call) : Type 0 where
+  pub alone : c.bytes ≡ None
+  pub ms : slice_index c.numbers 0 ≤ 65535
+
 pub record IsCall (s : Scene) (c : Call) : Type 0 where
   pub line : c.line < 2 ^ 31
   pub built : IsBuilt s c.code c.target
@@ -134,6 +153,14 @@ pub record IsCall (s : Scene) (c : Call) : Type 0 where
   pub bytes : IsBuffer c.bytes
   -- the lights are one byte
   pub lights : c.code ≡ 23 → CarriesBytes 1 c.bytes
+  pub written : c.code ≡ 24 → CarriesBuffer c.bytes
+  pub coding : c.code ≡ 25 → IsCoding c
+  -- the control lines are one byte
+  pub lines : c.code ≡ 26 → CarriesBytes 1 c.bytes
+  pub pause : c.code ≡ 27 → IsBreak c
+  pub printed : c.code ≡ 28 → CarriesBuffer c.bytes
+  pub question : c.code ≡ 29 → c.bytes ≡ None
+  pub soft_reset : c.code ≡ 30 → c.bytes ≡ None
 
 -- the roles of a driver's URBs, numbered
 abbrev pub role_number : Role → ℕ

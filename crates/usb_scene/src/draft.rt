@@ -10,8 +10,8 @@ use crate::growth::add;
 use crate::names::Names;
 use crate::rejects::{Rejects, raises, withdraws};
 use crate::room::{
-    are_low, calls_behind, is_buffer, is_interface, is_low, most_of, names_behind, rejects_behind,
-    replies_behind, room_behind,
+    are_low, calls_behind, carries_within, is_buffer, is_interface, is_low, most_of, names_behind,
+    rejects_behind, replies_behind, room_behind,
 };
 use crate::rules::{
     are_once, device_number, driven_number, fits_device, interface_target, is_new_thread,
@@ -253,9 +253,11 @@ impl Draft {
                 0 < self.more_calls && is_low(urb) && self.may_raise(*call, urb)
             }
             Statement::Alone { .. } => 0 < self.more_calls,
-            Statement::OnInterface { interface, .. } => {
-                0 < self.more_calls && is_interface(*interface)
-            }
+            Statement::OnInterface {
+                call,
+                interface,
+                ..
+            } => { 0 < self.more_calls && is_interface(*interface) && carries_within(call) }
         }
     }
 

@@ -5,9 +5,7 @@ ghost use Rattle.usb_scene.specs.Rules.{is_within, is_short, len_in, again_in};
 ghost use Rattle.usb_scene.specs.Named.{called_target};
 ghost use Rattle.usb_scene.specs.Growth.{bare_device, end_said, on_last, with_end, with_bytes, with_port, joined, with_answers, urb_said, with_call, last_changed, scene_declares, scene_with};
 
-use crate::call::{
-    bare_call_code, carried_bytes, interface_call_code, plain_call, submit_code, urb_call_code,
-};
+use crate::call::{bare_call_code, interface_call, plain_call, submit_code, urb_call_code};
 use crate::rules::device_number;
 use crate::scene::{Call, Scene, SceneDevice, SceneThread, SceneUrb, Target};
 use std::alloc::Global;
@@ -267,8 +265,7 @@ pub fn add(
             add_call(&mut scene.threads, call)
         }
         Statement::OnInterface { call, .. } => {
-            let bytes = carried_bytes(alloc, &call)?;
-            let call = plain_call(line, interface_call_code(&call), target, None, bytes);
+            let call = interface_call(alloc, line, target, call)?;
             add_call(&mut scene.threads, call)
         }
         declared => declare(scene, alloc, declared),

@@ -1,6 +1,6 @@
 //! What is left of the limits behind a line, and what is counted and found there.
 ghost use Rattle.std.specs.Prelude.{◌≡◌, ℕ, List, ◌-◌, ◌≤◌, ◌&&◌, nat_le, if◌then◌else◌, IfOk, Some, None, length};
-ghost use Rattle.usb_scene.specs.Rules.{most_of, is_low, replies_of, len_in, again_in, given_len};
+ghost use Rattle.usb_scene.specs.Rules.{most_of, is_low, replies_of, len_in, again_in, given_len, carries_within};
 ghost use Rattle.usb_scene.specs.Growth.{replies_said, calls_said};
 ghost use Rattle.usb_scene.specs.Counts.{count_in, counts_behind};
 ghost use Rattle.usb_scene.specs.Named.{number_in, found_with};
@@ -11,7 +11,7 @@ use crate::names::Names;
 use crate::rejects::Rejects;
 use crate::scene::{Scene, Target};
 use std::alloc::Global;
-use usb_statement::{DeviceBytes, Statement, UrbName, UrbOption};
+use usb_statement::{DeviceBytes, InterfaceCall, Statement, UrbName, UrbOption};
 use usb_types::{Buf, Memory};
 use usb_xfer::Item;
 
@@ -26,6 +26,12 @@ const MOST_CONFIG: usize = 65535;
 const MOST_ID: usize = 65535;
 
 const MOST_INTERFACE: u32 = 255;
+// Two stop bits, and a parity bit that is always 0 (PSTN 1.2 §6.3.11).
+const MOST_STOP: u32 = 2;
+
+const MOST_PARITY: u32 = 4;
+// In milliseconds (PSTN 1.2 §6.3.13).
+const MOST_BREAK: u32 = 65535;
 
 /// How many more replies may come behind those of these items.
 pub fn room_behind(items: &[Item], room: u32) -> Option<u32>
@@ -107,6 +113,19 @@ pub fn are_low(options: &[UrbOption]) -> bool
     ensures { result ≡ (nat_le (len_in options.now) 16384 && nat_le (again_in options.now) 63) }
 {
     len_in(options) <= MOST_BUFFER && again_in(options) <= MOST_AGAIN
+}
+
+/// Whether what a call on an interface carries is within its limits.
+pub fn carries_within(call: &InterfaceCall) -> bool
+    ensures { result ≡ carries_within call.now }
+{
+    match call {
+        InterfaceCall::Write { bytes } => bytes.bytes().len() <= MOST_BUFFER as usize,
+        InterfaceCall::Coding { stop, parity, .. } => *stop <= MOST_STOP && *parity <= MOST_PARITY,
+        InterfaceCall::SendBreak { ms } => *ms <= MOST_BREAK,
+        InterfaceCall::Print { bytes } => bytes.bytes().len() <= MOST_BUFFER as usize,
+        _ => true,
+    }
 }
 
 /// The counts of the rejects behind a line that calls this URB, if any.

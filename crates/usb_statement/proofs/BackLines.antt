@@ -1,5 +1,5 @@
 -- A statement that is printed is read again.
-use Rattle.std.proofs.Common.{◌≡◌, not, cond, ◌++◌, map, Some, None, refl, ap, ◌∙◌}
+use Rattle.std.proofs.Common.{◌≡◌, ℕ, true, not, cond, ◌++◌, map, Some, None, refl, ap, ◌∙◌}
 use Rattle.std.specs.Prelude.{option_and_then}
 use Rattle.std.specs.Fmt as fmt
 use Rattle.std.specs.Option.{option_map}
@@ -8,13 +8,13 @@ use Rattle.std.proofs.lemmas.Bool.{and_from, not_from_false}
 use Rattle.usb_text.specs.Kinds.{number_of, address_of}
 use Rattle.usb_text.specs.Print.{hex_pair}
 use Rattle.usb_text.proofs.Back.{number_of-decimal, byte_of-hex_pair, address_of-hex_pair}
-use Rattle.usb_statement.specs.InterfaceCalls.{interface_word, interface_call_of}
+use Rattle.usb_statement.specs.InterfaceCalls.{is_data_bits, data_bits_of, interface_word, interface_call_of}
 use Rattle.usb_statement.specs.Items.{items_of, are_items_of}
 use Rattle.usb_statement.specs.Options.{options_of}
 use Rattle.usb_statement.specs.UrbNames.{name_of}
 use Rattle.usb_statement.specs.Setups.{setup_first, behind_setup}
 use Rattle.usb_statement.specs.Statements.{device_kind_of, kind_of, sent_of, is_empty, answer_with, keyword_of, keyword_said, statement_of}
-use Rattle.usb_statement.specs.Sayable.{IsCarried, IsSayable}
+use Rattle.usb_statement.specs.Sayable.{IsNumber, IsCodingLine, IsCarried, IsSayable}
 use Rattle.usb_statement.specs.Printed.{keyword_text, device_kind_text, kind_text, item_text, option_words, setup_words, sent_words, carried_words, words_said}
 use Rattle.usb_statement.specs.declared.statement.Statement.{Statement}
 use Rattle.usb_statement.specs.declared.statement.Statement.TheVariants as say
@@ -29,7 +29,7 @@ use Rattle.usb_statement.specs.declared.keyword.BareCall.TheVariants.{Serve, Dow
 use Rattle.usb_statement.specs.declared.keyword.InterfaceWord.{InterfaceWord}
 use Rattle.usb_statement.specs.declared.keyword.InterfaceWord.TheVariants as called
 use Rattle.usb_statement.specs.declared.interface_call.InterfaceCall.{InterfaceCall}
-use Rattle.usb_statement.specs.declared.interface_call.InterfaceCall.TheVariants.{Led}
+use Rattle.usb_statement.specs.declared.interface_call.InterfaceCall.TheVariants as made
 use Rattle.usb_statement.proofs.BackWords.{back_name, back_device_kind, back_end, back_kind, back_items, back_options, back_urb, back_kept, back_sent}
 use Rattle.usb_statement.proofs.Setups.{back_first, back_behind}
 
@@ -53,6 +53,13 @@ back_alone Up = refl
 
 back_on_interface : (which : InterfaceWord) → keyword_of (keyword_text (word.OnInterface which)) ≡ Some (word.OnInterface which)
 back_on_interface called.Led = refl
+back_on_interface called.Write = refl
+back_on_interface called.Coding = refl
+back_on_interface called.Control = refl
+back_on_interface called.SendBreak = refl
+back_on_interface called.Print = refl
+back_on_interface called.Status = refl
+back_on_interface called.SoftReset = refl
 
 -- the first word
 pub back_keyword : (keyword : Keyword) → keyword_of (keyword_text keyword) ≡ Some keyword
@@ -68,9 +75,31 @@ back_keyword (word.OnUrb call) = back_on_urb call
 back_keyword (word.Alone call) = back_alone call
 back_keyword (word.OnInterface which) = back_on_interface which
 
+back_bits : (bits : ℕ) → IsNumber bits → is_data_bits bits ≡ true → data_bits_of (fmt.decimal bits) ≡ Some bits
+back_bits bits small known =
+    ap (option_and_then (λ n. cond (is_data_bits n) (Some n) None)) (number_of-decimal bits small) ∙ ap (λ t. cond t (Some bits) None) known
+
+back_coding : (rate stop parity bits : ℕ) → IsCodingLine rate stop parity bits
+    → interface_call_of called.Coding (carried_words (made.Coding rate stop parity bits)) ≡ Some (made.Coding rate stop parity bits)
+back_coding rate stop parity bits h =
+    let b = data_bits_of (fmt.decimal bits) in
+    let p = number_of (fmt.decimal parity) in
+    let s = number_of (fmt.decimal stop) in
+    ap (λ o. option_and_then (λ r. option_and_then (λ s. option_and_then (λ p. option_and_then (λ b. Some (made.Coding r s p b)) b) p) s) o) (number_of-decimal rate h.rate_number)
+    ∙ ap (λ o. option_and_then (λ s. option_and_then (λ p. option_and_then (λ b. Some (made.Coding rate s p b)) b) p) o) (number_of-decimal stop h.stop_number)
+    ∙ ap (λ o. option_and_then (λ p. option_and_then (λ b. Some (made.Coding rate stop p b)) b) o) (number_of-decimal parity h.parity_number)
+    ∙ ap (λ o. option_and_then (λ b. Some (made.Coding rate stop parity b)) o) (back_bits bits h.bits_number h.bits_of_data)
+
 -- what a call on an interface carries
 back_carried : (call : InterfaceCall) → IsCarried call → interface_call_of (interface_word call) (carried_words call) ≡ Some call
-back_carried (Led lights) h = ap (option_map (λ b. Led b)) (byte_of-hex_pair lights h)
+back_carried (made.Led lights) h = ap (option_map (λ b. made.Led b)) (byte_of-hex_pair lights h)
+back_carried (made.Write bytes) h = ap (option_map (λ b. made.Write b)) (back_kept bytes h)
+back_carried (made.Coding rate stop parity bits) h = back_coding rate stop parity bits h
+back_carried (made.Control lines) h = ap (option_map (λ b. made.Control b)) (byte_of-hex_pair lines h)
+back_carried (made.SendBreak ms) h = ap (option_map (λ n. made.SendBreak n)) (number_of-decimal ms h)
+back_carried (made.Print bytes) h = ap (option_map (λ b. made.Print b)) (back_kept bytes h)
+back_carried made.Status h = refl
+back_carried made.SoftReset h = refl
 
 -- the words behind it
 pub back_words : (st : Statement) → IsSayable st → statement_of (keyword_said st) (words_said st) ≡ Some st

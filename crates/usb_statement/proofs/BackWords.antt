@@ -26,9 +26,10 @@ use Rattle.usb_xfer.specs.declared.script.Item.{Item}
 use Rattle.usb_xfer.specs.declared.script.Kind.{Kind}
 use Rattle.usb_xfer.specs.declared.script.Kind.TheVariants.{Raw, Keyboard, Acm, Printer}
 use Rattle.usb_statement.specs.Items.{what_of, times_of, item_parts, item_of, items_of}
+use Rattle.usb_statement.specs.Kept.{kept_data}
 use Rattle.usb_statement.specs.Options.{number_option, options_of}
 use Rattle.usb_statement.specs.UrbNames.{name_of, role_of, role_parts, driver_parts, urb_name_of}
-use Rattle.usb_statement.specs.Statements.{device_kind_of, end_of, kind_of, kept_data, sent_of}
+use Rattle.usb_statement.specs.Statements.{device_kind_of, end_of, kind_of, sent_of}
 use Rattle.usb_statement.specs.Sayable.{IsEndAddress, is_end_kind, IsPacket, IsSayableItem, IsSayableOption, IsUrbName, IsKept, IsSent}
 use Rattle.usb_statement.specs.Printed.{device_kind_text, kind_text, role_text, what_text, item_text, option_words, urb_text, sent_words}
 use Rattle.usb_statement.specs.declared.options.UrbOption.{UrbOption}

@@ -45,7 +45,7 @@ use Rattle.usb_statement.specs.declared.keyword.BareCall.TheVariants.{Serve, Dow
 use Rattle.usb_statement.specs.declared.keyword.InterfaceWord.{InterfaceWord}
 use Rattle.usb_statement.specs.declared.keyword.InterfaceWord.TheVariants as called
 use Rattle.usb_statement.specs.declared.interface_call.InterfaceCall.{InterfaceCall}
-use Rattle.usb_statement.specs.declared.interface_call.InterfaceCall.TheVariants.{Led}
+use Rattle.usb_statement.specs.declared.interface_call.InterfaceCall.TheVariants as made
 
 -- the bytes of which words are printed: from `*` on
 abbrev is_ink : ℕ → Bool
@@ -206,6 +206,13 @@ inked_alone Up = record { some = lit< tt; ink = refl }
 
 inked_on_interface : (which : InterfaceWord) → IsInked (interface_word_text which)
 inked_on_interface called.Led = record { some = lit< tt; ink = refl }
+inked_on_interface called.Write = record { some = lit< tt; ink = refl }
+inked_on_interface called.Coding = record { some = lit< tt; ink = refl }
+inked_on_interface called.Control = record { some = lit< tt; ink = refl }
+inked_on_interface called.SendBreak = record { some = lit< tt; ink = refl }
+inked_on_interface called.Print = record { some = lit< tt; ink = refl }
+inked_on_interface called.Status = record { some = lit< tt; ink = refl }
+inked_on_interface called.SoftReset = record { some = lit< tt; ink = refl }
 
 inked_keyword : (keyword : Keyword) → IsInked (keyword_text keyword)
 inked_keyword word.Device = record { some = lit< tt; ink = refl }
@@ -221,7 +228,15 @@ inked_keyword (word.Alone call) = inked_alone call
 inked_keyword (word.OnInterface which) = inked_on_interface which
 
 inked_carried : (call : InterfaceCall) → IsCarried call → AreInked (carried_words call)
-inked_carried (Led lights) h = (inked_byte lights h, tt)
+inked_carried (made.Led lights) h = (inked_byte lights h, tt)
+inked_carried (made.Write bytes) h = (inked_data bytes h.0, tt)
+inked_carried (made.Coding rate stop parity bits) h =
+    (inked_number rate h.rate_number, (inked_number stop h.stop_number, (inked_number parity h.parity_number, (inked_number bits h.bits_number, tt))))
+inked_carried (made.Control lines) h = (inked_byte lines h, tt)
+inked_carried (made.SendBreak ms) h = (inked_number ms h, tt)
+inked_carried (made.Print bytes) h = (inked_data bytes h.0, tt)
+inked_carried made.Status h = tt
+inked_carried made.SoftReset h = tt
 
 inked_words : (st : Statement) → IsSayable st → AreInked (words_said st)
 inked_words (say.Device name kind) h = (inked_name name h, (inked_device_kind kind, tt))

@@ -5,7 +5,7 @@ use Rattle.std.specs.Option.{option_map}
 use Rattle.std.proofs.lemmas.List.{take_min, take_all, length-take}
 use Rattle.std.proofs.Math.Seq.{take-append-add}
 use Rattle.usb_text.specs.Bytes.{data_of}
-use Rattle.usb_statement.specs.Statements.{joined_data}
+use Rattle.usb_statement.specs.Kept.{joined_data}
 
 -- as many bytes behind others as there is room for
 pub take_onto : (n : ℕ) (all bytes : List ℕ) → length all ≤ n → all ++ take (min (n - length all) (length bytes)) bytes ≡ take n (all ++ bytes)

@@ -8,13 +8,14 @@ use Rattle.usb_text.specs.Kinds.{number_of, is_address, byte_of, address_of}
 use Rattle.usb_text.proofs.Known.{some_if}
 use Rattle.usb_text.proofs.KnownBytes.{small_number, small_byte}
 use Rattle.usb_xfer.specs.declared.script.Item.{Item}
-use Rattle.usb_statement.specs.InterfaceCalls.{interface_call_of}
+use Rattle.usb_statement.specs.InterfaceCalls.{is_data_bits, data_bits_of, interface_call_of}
 use Rattle.usb_statement.specs.Items.{items_of, are_items_of}
+use Rattle.usb_statement.specs.Kept.{some_data, kept_data}
 use Rattle.usb_statement.specs.Options.{options_of}
 use Rattle.usb_statement.specs.Setups.{setup_first, behind_setup}
 use Rattle.usb_statement.specs.UrbNames.{name_of, urb_name_of}
-use Rattle.usb_statement.specs.Statements.{device_kind_of, end_of, kind_of, kept_data, sent_of, is_empty, answer_with, statement_of}
-use Rattle.usb_statement.specs.Sayable.{IsSayable, IsSayableItem, IsCarried}
+use Rattle.usb_statement.specs.Statements.{device_kind_of, end_of, kind_of, sent_of, is_empty, answer_with, statement_of}
+use Rattle.usb_statement.specs.Sayable.{IsNumber, IsSayable, IsSayableItem, IsKept, IsCarried}
 use Rattle.usb_statement.specs.declared.statement.Statement.{Statement}
 use Rattle.usb_statement.specs.declared.statement.Statement.TheVariants as say
 use Rattle.usb_statement.specs.declared.keyword.Keyword.{Keyword}
@@ -25,6 +26,7 @@ use Rattle.usb_statement.specs.declared.keyword.BareCall.{BareCall}
 use Rattle.usb_statement.specs.declared.keyword.InterfaceWord.{InterfaceWord}
 use Rattle.usb_statement.specs.declared.keyword.InterfaceWord.TheVariants as called
 use Rattle.usb_statement.specs.declared.interface_call.InterfaceCall.{InterfaceCall}
+use Rattle.usb_statement.specs.declared.interface_call.InterfaceCall.TheVariants as made
 use Rattle.usb_statement.proofs.SaidWords.{option_map_some, said_name, said_address, said_end, said_kind, said_items, said_options, said_urb, said_kept, said_sent}
 use Rattle.usb_statement.proofs.Setups.{said_setup}
 
@@ -114,10 +116,53 @@ said_alone : (call : BareCall) (texts : List (List ℕ)) (st : Statement) → st
 said_alone call [] st h = subst IsSayable (same_Some (say.Alone call) st h) tt
 said_alone call (text ∷ texts) st h = cc
 
+said_some : (texts : List (List ℕ)) (bytes : List ℕ) → some_data texts ≡ Some bytes → IsKept bytes
+said_some [] bytes h = cc
+said_some (text ∷ texts) bytes h = said_kept (text ∷ texts) bytes h
+
+said_bits : (text : List ℕ) (bits : ℕ) → data_bits_of text ≡ Some bits → IsNumber bits × (is_data_bits bits ≡ true)
+said_bits text bits h =
+    option_and_then_some _ (number_of text) bits h (λ n e g.
+    let p = some_if (is_data_bits n) n bits g in
+    subst (λ x. IsNumber x × (is_data_bits x ≡ true)) p.1 (small_number text n e, p.0))
+
+said_coding : (texts : List (List ℕ)) (call : InterfaceCall) → interface_call_of called.Coding texts ≡ Some call → IsCarried call
+said_coding [] call h = cc
+said_coding (r ∷ []) call h = cc
+said_coding (r ∷ s ∷ []) call h = cc
+said_coding (r ∷ s ∷ p ∷ []) call h = cc
+said_coding (r ∷ s ∷ p ∷ b ∷ []) call h =
+    option_and_then_some _ (number_of r) call h (λ rate e g.
+    option_and_then_some _ (number_of s) call g (λ stop e2 g2.
+    option_and_then_some _ (number_of p) call g2 (λ parity e3 g3.
+    option_and_then_some _ (data_bits_of b) call g3 (λ bits e4 g4.
+    let known = said_bits b bits e4 in
+    subst IsCarried (same_Some (made.Coding rate stop parity bits) call g4) (record {
+      rate_number = small_number r rate e;
+      stop_number = small_number s stop e2;
+      parity_number = small_number p parity e3;
+      bits_number = known.0;
+      bits_of_data = known.1;
+    })))))
+said_coding (r ∷ s ∷ p ∷ b ∷ more ∷ texts) call h = cc
+
 said_carried : (which : InterfaceWord) (texts : List (List ℕ)) (call : InterfaceCall) → interface_call_of which texts ≡ Some call → IsCarried call
 said_carried called.Led [] call h = cc
 said_carried called.Led (text ∷ []) call h = option_map_some _ (byte_of text) call h (λ lights e g. subst IsCarried g (small_byte text lights e))
 said_carried called.Led (text ∷ more ∷ texts) call h = cc
+said_carried called.Write texts call h = option_map_some _ (some_data texts) call h (λ bytes e g. subst IsCarried g (said_some texts bytes e))
+said_carried called.Coding texts call h = said_coding texts call h
+said_carried called.Control [] call h = cc
+said_carried called.Control (text ∷ []) call h = option_map_some _ (byte_of text) call h (λ lines e g. subst IsCarried g (small_byte text lines e))
+said_carried called.Control (text ∷ more ∷ texts) call h = cc
+said_carried called.SendBreak [] call h = cc
+said_carried called.SendBreak (text ∷ []) call h = option_map_some _ (number_of text) call h (λ ms e g. subst IsCarried g (small_number text ms e))
+said_carried called.SendBreak (text ∷ more ∷ texts) call h = cc
+said_carried called.Print texts call h = option_map_some _ (some_data texts) call h (λ bytes e g. subst IsCarried g (said_some texts bytes e))
+said_carried called.Status [] call h = subst IsCarried (same_Some made.Status call h) tt
+said_carried called.Status (text ∷ texts) call h = cc
+said_carried called.SoftReset [] call h = subst IsCarried (same_Some made.SoftReset call h) tt
+said_carried called.SoftReset (text ∷ texts) call h = cc
 
 said_on_interface : (which : InterfaceWord) (texts : List (List ℕ)) (st : Statement) → statement_of (word.OnInterface which) texts ≡ Some st → IsSayable st
 said_on_interface which [] st h = cc

@@ -19,9 +19,10 @@ use Rattle.usb_xfer.specs.declared.script.What.{What}
 use Rattle.usb_xfer.specs.declared.script.What.TheVariants.{Ack, Nak, Stall, Error, Packet}
 use Rattle.usb_xfer.specs.declared.script.Item.{Item}
 use Rattle.usb_statement.specs.Items.{what_of, times_of, item_parts, item_of, items_of}
+use Rattle.usb_statement.specs.Kept.{joined_data, kept_data}
 use Rattle.usb_statement.specs.Options.{number_option, options_of}
 use Rattle.usb_statement.specs.UrbNames.{name_of, role_of, role_parts, driver_parts, urb_name_of}
-use Rattle.usb_statement.specs.Statements.{end_of, kind_of, joined_data, kept_data, sent_of}
+use Rattle.usb_statement.specs.Statements.{end_of, kind_of, sent_of}
 use Rattle.usb_statement.specs.Sayable.{IsNumber, IsEndAddress, is_end_kind, IsPacket, IsSayableItem, IsSayableOption, IsUrbName, IsKept, IsSent}
 use Rattle.usb_statement.specs.declared.options.UrbOption.{UrbOption}
 use Rattle.usb_statement.specs.declared.options.UrbOption.TheVariants.{Len, Again, Short}

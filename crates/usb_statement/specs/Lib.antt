@@ -1,6 +1,7 @@
 pub mod Chain
 pub mod InterfaceCalls
 pub mod Items
+pub mod Kept
 pub mod Options
 pub mod Printed
 pub mod Sayable

@@ -30,7 +30,7 @@ use Rattle.usb_statement.specs.declared.keyword.BareCall.TheVariants.{Serve, Dow
 use Rattle.usb_statement.specs.declared.keyword.InterfaceWord.{InterfaceWord}
 use Rattle.usb_statement.specs.declared.keyword.InterfaceWord.TheVariants as called
 use Rattle.usb_statement.specs.declared.interface_call.InterfaceCall.{InterfaceCall}
-use Rattle.usb_statement.specs.declared.interface_call.InterfaceCall.TheVariants.{Led}
+use Rattle.usb_statement.specs.declared.interface_call.InterfaceCall.TheVariants as made
 
 abbrev pub device_bytes_text : DeviceBytes → List ℕ
 device_bytes_text Desc = codes "desc"
@@ -52,6 +52,13 @@ bare_call_text Up = codes "up"
 
 abbrev pub interface_word_text : InterfaceWord → List ℕ
 interface_word_text called.Led = codes "led"
+interface_word_text called.Write = codes "write"
+interface_word_text called.Coding = codes "coding"
+interface_word_text called.Control = codes "control"
+interface_word_text called.SendBreak = codes "sendbreak"
+interface_word_text called.Print = codes "print"
+interface_word_text called.Status = codes "status"
+interface_word_text called.SoftReset = codes "softreset"
 
 -- the first word
 abbrev pub keyword_text : Keyword → List ℕ
@@ -122,7 +129,14 @@ sent_words (Some bytes) = hex_text bytes ∷ []
 
 -- the words of what a call on an interface carries
 abbrev pub carried_words : InterfaceCall → List (List ℕ)
-carried_words (Led lights) = hex_pair lights ∷ []
+carried_words (made.Led lights) = hex_pair lights ∷ []
+carried_words (made.Write bytes) = hex_text bytes ∷ []
+carried_words (made.Coding rate stop parity bits) = decimal rate ∷ decimal stop ∷ decimal parity ∷ decimal bits ∷ []
+carried_words (made.Control lines) = hex_pair lines ∷ []
+carried_words (made.SendBreak ms) = decimal ms ∷ []
+carried_words (made.Print bytes) = hex_text bytes ∷ []
+carried_words made.Status = []
+carried_words made.SoftReset = []
 
 -- the words behind the first one
 abbrev pub words_said : Statement → List (List ℕ)

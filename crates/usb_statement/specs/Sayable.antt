@@ -8,6 +8,7 @@ use Rattle.usb_text.specs.Written.{AreBytes}
 use Rattle.usb_xfer.specs.declared.script.What.{What}
 use Rattle.usb_xfer.specs.declared.script.What.TheVariants.{Packet}
 use Rattle.usb_xfer.specs.declared.script.Item.{Item}
+use Rattle.usb_statement.specs.InterfaceCalls.{is_data_bits}
 use Rattle.usb_statement.specs.Items.{are_items_of}
 use Rattle.usb_statement.specs.Statements.{is_empty}
 use Rattle.usb_statement.specs.declared.options.UrbOption.{UrbOption}
@@ -15,7 +16,7 @@ use Rattle.usb_statement.specs.declared.options.UrbOption.TheVariants.{Len, Agai
 use Rattle.usb_statement.specs.declared.urb_name.UrbName.{UrbName}
 use Rattle.usb_statement.specs.declared.urb_name.UrbName.TheVariants.{Scripted, Driver}
 use Rattle.usb_statement.specs.declared.interface_call.InterfaceCall.{InterfaceCall}
-use Rattle.usb_statement.specs.declared.interface_call.InterfaceCall.TheVariants.{Led}
+use Rattle.usb_statement.specs.declared.interface_call.InterfaceCall.TheVariants as made
 use Rattle.usb_statement.specs.declared.statement.Statement.{Statement}
 use Rattle.usb_statement.specs.declared.statement.Statement.TheVariants as say
 
@@ -86,9 +87,24 @@ pub record IsUrbLine (name device : List ℕ) (address : ℕ) (options : List Ur
   pub valid : is_address address ≡ true
   pub each : All IsSayableOption options
 
+-- a line coding
+pub record IsCodingLine (rate stop parity bits : ℕ) : Type 0 where
+  pub rate_number : IsNumber rate
+  pub stop_number : IsNumber stop
+  pub parity_number : IsNumber parity
+  pub bits_number : IsNumber bits
+  pub bits_of_data : is_data_bits bits ≡ true
+
 -- what a call on an interface carries
 abbrev pub IsCarried : InterfaceCall → Type 0
-IsCarried (Led lights) = lights < 256
+IsCarried (made.Led lights) = lights < 256
+IsCarried (made.Write bytes) = IsKept bytes
+IsCarried (made.Coding rate stop parity bits) = IsCodingLine rate stop parity bits
+IsCarried (made.Control lines) = lines < 256
+IsCarried (made.SendBreak ms) = IsNumber ms
+IsCarried (made.Print bytes) = IsKept bytes
+IsCarried made.Status = Unit {0}
+IsCarried made.SoftReset = Unit {0}
 
 pub record IsInterfaceLine (call : InterfaceCall) (device : List ℕ) (interface : ℕ) : Type 0 where
   pub on_device : is_name device ≡ true

@@ -1,17 +1,17 @@
 -- What a line says by itself: a row of the grammar for each first word.
-use Rattle.std.specs.Prelude.{ℕ, ◌==◌, ◌&&◌, if◌then◌else◌, List, [], ◌∷◌, ◌++◌, take, Option, Some, None, codes, Bool, true, false, not}
+use Rattle.std.specs.Prelude.{ℕ, ◌==◌, ◌&&◌, if◌then◌else◌, List, [], ◌∷◌, Option, Some, None, codes, Bool, true, false, not}
 use Rattle.std.specs.Option.{option_map}
 use Rattle.std.specs.Str.{bytes_eq}
 use Rattle.usb_machine.specs.declared.layout.EndKind.{EndKind}
 use Rattle.usb_machine.specs.declared.layout.EndKind.TheVariants.{Bulk, Interrupt, Iso}
 use Rattle.usb_text.specs.Kinds.{number_of, byte_of, address_of}
-use Rattle.usb_text.specs.Bytes.{data_of}
 use Rattle.usb_xfer.specs.declared.script.Item.{Item}
 use Rattle.usb_xfer.specs.declared.script.Kind.{Kind}
 use Rattle.usb_xfer.specs.declared.script.Kind.TheVariants.{Raw, Keyboard, Acm, Printer}
 use Rattle.usb_statement.specs.Chain.{◌>>=◌}
 use Rattle.usb_statement.specs.InterfaceCalls.{interface_word, interface_call_of}
 use Rattle.usb_statement.specs.Items.{items_of, are_items_of}
+use Rattle.usb_statement.specs.Kept.{kept_data}
 use Rattle.usb_statement.specs.Options.{options_of}
 use Rattle.usb_statement.specs.Setups.{setup_first, behind_setup}
 use Rattle.usb_statement.specs.UrbNames.{name_of, urb_name_of}
@@ -26,7 +26,7 @@ use Rattle.usb_statement.specs.declared.keyword.UrbCall.TheVariants.{Unlink, Kil
 use Rattle.usb_statement.specs.declared.keyword.BareCall.{BareCall}
 use Rattle.usb_statement.specs.declared.keyword.BareCall.TheVariants.{Serve, Down, Up}
 use Rattle.usb_statement.specs.declared.keyword.InterfaceWord.{InterfaceWord}
-use Rattle.usb_statement.specs.declared.keyword.InterfaceWord.TheVariants.{Led}
+use Rattle.usb_statement.specs.declared.keyword.InterfaceWord.TheVariants as called
 
 -- bytes that a line gives its device
 abbrev pub device_bytes_of : List ℕ → Option DeviceBytes
@@ -57,7 +57,16 @@ bare_call_of text =
 
 -- a call on an interface that a driver has
 abbrev pub interface_word_of : List ℕ → Option InterfaceWord
-interface_word_of text = if bytes_eq text (codes "led") then Some Led else None
+interface_word_of text =
+    if bytes_eq text (codes "led") then Some called.Led
+    else if bytes_eq text (codes "write") then Some called.Write
+    else if bytes_eq text (codes "coding") then Some called.Coding
+    else if bytes_eq text (codes "control") then Some called.Control
+    else if bytes_eq text (codes "sendbreak") then Some called.SendBreak
+    else if bytes_eq text (codes "print") then Some called.Print
+    else if bytes_eq text (codes "status") then Some called.Status
+    else if bytes_eq text (codes "softreset") then Some called.SoftReset
+    else None
 
 -- the word of a device's bytes or of a call
 abbrev pub later_keyword : Option DeviceBytes → Option UrbCall → Option BareCall → Option InterfaceWord → Option Keyword
@@ -105,18 +114,6 @@ kind_of text =
     else if bytes_eq text (codes "int") then Some Interrupt
     else if bytes_eq text (codes "iso") then Some Iso
     else None
-
--- DATA.., joined
-abbrev pub joined_data : List (List ℕ) → Option (List ℕ)
-joined_data [] = Some []
-joined_data (text ∷ texts) = do
-  bytes ← data_of text
-  others ← joined_data texts
-  Some (bytes ++ others)
-
--- the bytes of DATA.., of which no more is kept than one above the most that any line may have
-abbrev pub kept_data : List (List ℕ) → Option (List ℕ)
-kept_data texts = option_map (λ bytes. take 65536 bytes) (joined_data texts)
 
 -- what a submit says to send, if anything
 abbrev pub sent_of : List (List ℕ) → Option (Option (List ℕ))

@@ -1,7 +1,8 @@
 //! Bytes that a line gives in words of data.
 ghost use Rattle.std.specs.Prelude.{◌≡◌, ◌≤◌, ◌++◌, length, take, IfOk, OnOk};
 ghost use Rattle.usb_text.specs.Words.{words};
-ghost use Rattle.usb_statement.specs.Statements.{kept_data, sent_of};
+ghost use Rattle.usb_statement.specs.Kept.{kept_data, some_data};
+ghost use Rattle.usb_statement.specs.Statements.{sent_of};
 
 use std::alloc::Global;
 use usb_text::{data_bytes, next_word};
@@ -34,6 +35,16 @@ pub fn kept(alloc: Global, line: &[u8]) -> Result<Option<Buf>, Memory>
         rest = behind;
     }
     Ok(Some(all))
+}
+
+/// The same, where the line has words.
+pub fn some_kept(alloc: Global, line: &[u8]) -> Result<Option<Buf>, Memory>
+    ensures { IfOk result (λ bytes. bytes ≡ some_data (words line.now)) }
+{
+    if next_word(line).is_none() {
+        return Ok(None);
+    }
+    kept(alloc, line)
 }
 
 /// What a line gives to send, if it has words of data.

@@ -65,6 +65,13 @@ impl BareCall {
 #[derive(Clone, Copy, Debug, PartialEq, Eq)]
 pub enum InterfaceWord {
     Led,
+    Write,
+    Coding,
+    Control,
+    SendBreak,
+    Print,
+    Status,
+    SoftReset,
 }
 
 impl InterfaceWord {
@@ -74,6 +81,13 @@ impl InterfaceWord {
     {
         match self {
             InterfaceWord::Led => "led",
+            InterfaceWord::Write => "write",
+            InterfaceWord::Coding => "coding",
+            InterfaceWord::Control => "control",
+            InterfaceWord::SendBreak => "sendbreak",
+            InterfaceWord::Print => "print",
+            InterfaceWord::Status => "status",
+            InterfaceWord::SoftReset => "softreset",
         }
     }
 }
@@ -147,6 +161,20 @@ fn interface_word(word: &[u8]) -> Option<InterfaceWord>
 {
     if is_text(word, "led") {
         Some(InterfaceWord::Led)
+    } else if is_text(word, "write") {
+        Some(InterfaceWord::Write)
+    } else if is_text(word, "coding") {
+        Some(InterfaceWord::Coding)
+    } else if is_text(word, "control") {
+        Some(InterfaceWord::Control)
+    } else if is_text(word, "sendbreak") {
+        Some(InterfaceWord::SendBreak)
+    } else if is_text(word, "print") {
+        Some(InterfaceWord::Print)
+    } else if is_text(word, "status") {
+        Some(InterfaceWord::Status)
+    } else if is_text(word, "softreset") {
+        Some(InterfaceWord::SoftReset)
     } else {
         None
     }

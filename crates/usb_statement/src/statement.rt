@@ -308,7 +308,7 @@ fn on_interface(
     if !is_name(device) {
         return Ok(None);
     }
-    match (number(interface), read_interface_call(which, line)) {
+    match (number(interface), read_interface_call(alloc, which, line)?) {
         (Some(interface), Some(call)) => {
             let device = copy(alloc, device)?;
             Ok(Some(Statement::OnInterface {

@@ -1,7 +1,7 @@
 use Rattle.std.proofs.Common.{◌≡◌, ◌≤◌, ◌++◌, length, take}
 use Rattle.std.specs.Option.{option_map}
 use Rattle.usb_text.specs.Words.{words}
-use Rattle.usb_statement.specs.Statements.{joined_data, kept_data}
+use Rattle.usb_statement.specs.Kept.{joined_data, kept_data}
 use Rattle.usb_statement.proofs.kept_data.kept.Given as goal
 
 abbrev pub invariant-loop-word : goal.invariant-loop-word
