@@ -1,35 +1,50 @@
 -- What the core of a driver has seen, and what may come to it.
-use Rattle.std.specs.Prelude.{List, map}
+use Rattle.std.specs.Prelude.{◌≡◌, Bool, true, false, List, map}
 use Rattle.usb_types.specs.declared.urb.Role.{Role}
-use Rattle.usb_types.specs.declared.urb.Role.TheVariants.{Note, Read0, Read1, Write, Ctl}
 use Rattle.usb_bind.specs.declared.row.Driver.{Driver}
 use Rattle.usb_bind.specs.declared.row.Driver.TheVariants.{Keyboard, Acm, Printer}
 use Rattle.usb_hid.specs.Keyboard.{Stands, IsOfKeyboard}
+use Rattle.usb_acm.specs.Acm.{Stands as PortStands, IsOfAcm}
+use Rattle.usb_printer.specs.Printer.{Kept, Stands as PrinterStands, IsOfPrinter}
+use Rattle.usb_printer.specs.Requests.{question_of}
+use Rattle.usb_machine.specs.declared.transfer.Transfer.{Transfer}
 use Rattle.usb_class.specs.declared.class_core.Core.{Core}
-use Rattle.usb_class.specs.declared.class_core.Core.TheVariants.{Keyboard as KeyboardCore, Idle}
+use Rattle.usb_class.specs.declared.class_core.Core.TheVariants.{Keyboard as KeyboardCore, Acm as AcmCore, Printer as PrinterCore}
 use Rattle.usb_class.specs.Done.{Done}
-use Rattle.usb_class.specs.Told.{heard}
+use Rattle.usb_class.specs.Origin.{Origin}
+use Rattle.usb_class.specs.Told.{heard, port_heard, printer_heard}
 
--- the core is this driver's, and has seen these completions and no other
-abbrev pub IsCore : Driver → List Done → Core → Type 0
-IsCore Keyboard done (KeyboardCore kept) = Stands kept (map heard done)
-IsCore Acm done Idle = Unit {0}
-IsCore Printer done Idle = Unit {0}
-IsCore driver done core = ⊥
+-- a printer's core began so, and has seen these completions and no other
+pub record IsPrinter (o : Origin) (done : List Done) (kept : Kept) : Type 0 where
+  pub number : kept.number ≡ o.number
+  pub interface : kept.interface ≡ o.interface
+  pub stands : PrinterStands kept o.id (map printer_heard done)
+
+-- the core is this driver's, began so, and has seen these completions and no other
+abbrev pub IsCore : Driver → Origin → List Done → Core → Type 0
+IsCore Keyboard o done (KeyboardCore kept) = Stands kept (map heard done)
+IsCore Acm o done (AcmCore kept) = PortStands kept (map port_heard done)
+IsCore Printer o done (PrinterCore kept) = IsPrinter o done kept
+IsCore driver o done core = ⊥
+
+-- whether its question is out
+abbrev pub is_asking : Core → Bool
+is_asking (PrinterCore kept) = kept.out
+is_asking core = false
+
+-- the transfer is its question, which is out
+abbrev pub CanUnask : Core → Transfer → Type 0
+CanUnask (PrinterCore kept) t = (kept.out ≡ true) × (t ≡ question_of kept.number kept.interface)
+CanUnask core t = ⊥
 
 -- the driver has an URB for the purpose
 abbrev pub IsOfDriver : Driver → Role → Type 0
 IsOfDriver Keyboard role = IsOfKeyboard role
-IsOfDriver Acm Note = Unit {0}
-IsOfDriver Acm Read0 = Unit {0}
-IsOfDriver Acm Read1 = Unit {0}
-IsOfDriver Acm Write = Unit {0}
-IsOfDriver Acm Ctl = Unit {0}
-IsOfDriver Printer Write = Unit {0}
-IsOfDriver Printer Ctl = Unit {0}
-IsOfDriver driver role = ⊥
+IsOfDriver Acm role = IsOfAcm role
+IsOfDriver Printer role = IsOfPrinter role
 
 -- an URB for this purpose may come back to the core
 abbrev pub CanComplete : Core → Role → Type 0
 CanComplete (KeyboardCore kept) role = IsOfKeyboard role
-CanComplete Idle role = Unit {0}
+CanComplete (AcmCore kept) role = IsOfAcm role
+CanComplete (PrinterCore kept) role = IsOfPrinter role

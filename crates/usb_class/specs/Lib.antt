@@ -1,4 +1,6 @@
 pub mod Done
+pub mod Origin
+pub mod Asking
 pub mod Roles
 pub mod Handler
 pub mod Told

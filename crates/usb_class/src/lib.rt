@@ -6,7 +6,7 @@ mod class_core;
 mod handler;
 mod roles;
 
-pub use calls::{setup_for, urb_for};
+pub use calls::{payload_for, setup_for, urb_for, window_for};
 pub use class_core::{Core, Told};
 pub use handler::{goes_again, with_window};
-pub use roles::{has_number, read_size, role_of};
+pub use roles::{has_number, kept_size, role_of};

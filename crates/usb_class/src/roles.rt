@@ -1,8 +1,8 @@
 //! What the URBs of drivers are for.
 ghost use Rattle.std.specs.Prelude.{◌≡◌};
-ghost use Rattle.usb_class.specs.Roles.{has_for, role_in, read_size, has_number};
+ghost use Rattle.usb_class.specs.Roles.{has_for, role_in, kept_size, has_number};
 
-use usb_bind::{Bound, Driver};
+use usb_bind::{Board, Bound, Driver, interface_at, read_size};
 use usb_types::{Role, UrbId};
 
 const ROLES: [Role; 6] = [
@@ -33,14 +33,13 @@ pub fn role_of(bound: &Bound, urb: u32) -> Option<Role>
         .find(|role| has_for(urb, bound, *role))
 }
 
-/// How many bytes a read has that the driver keeps with its interface.
-pub fn read_size(driver: Driver, role: Role) -> Option<u32>
-    ensures { result ≡ read_size driver role }
+/// How many bytes a read has that the driver keeps with its interface, by the descriptors of the interface's own setting.
+pub fn kept_size(board: &Board, bound: &Bound, role: Role) -> Option<u32>
+    ensures { result ≡ kept_size board.now bound.now role }
 {
-    match (driver, role) {
-        (Driver::Keyboard, Role::In) => Some(8),
-        _ => None,
-    }
+    let attached = board.attached(bound.device)?;
+    let alt = interface_at(&attached.config, bound.interface as u16)?;
+    read_size(bound.driver, &attached.config, alt, role)
 }
 
 /// Whether transfers of this purpose have a number of the drivers' own.
