@@ -1,0 +1,4 @@
+pub mod Keys
+pub mod Serial
+pub mod Jobs
+pub mod Told
