@@ -1,5 +1,5 @@
 -- The requests of a probe, one after another.
-use Rattle.std.proofs.Common.{ℕ, ◌≡◌, ◌*◌, Bool, true, false, not, cond, List, [], ◌∷◌, ◌++◌, refl, sym, ap, ◌∙◌, subst}
+use Rattle.std.proofs.Common.{ℕ, ◌≡◌, Bool, true, false, not, cond, Option, Some, List, [], ◌∷◌, ◌++◌, take, refl, sym, ap, ◌∙◌, subst}
 use Rattle.usb_ctrl.specs.declared.setup.Setup.{Setup}
 use Rattle.usb_xfer.specs.Direction.{goes_in}
 use Rattle.usb_xfer.specs.Replies.{Reply, Ask, control_heard, HearsControl}
@@ -10,7 +10,7 @@ use Rattle.usb_device.specs.Device.{reply_to, Stands}
 use Rattle.usb_device.specs.Replied.{Replied}
 use Rattle.usb_bind.specs.declared.row.Driver.{Driver}
 use Rattle.usb_bind.specs.declared.row.Driver.TheVariants.{Keyboard, Acm, Printer}
-use Rattle.usb_prepare.specs.Probing.{to_interface, requests_of, asking, ends_probe, Asked, ask_each, goes_on, Asks, AsksEach}
+use Rattle.usb_prepare.specs.Probing.{to_interface, id_request, requests_of, asking, ends_probe, Asked, ask_each, goes_on, Asks, AsksEach, TellsId}
 
 -- the host hears whether the probe goes on
 goes_heard : (b : Bool) (n : ℕ) (r : Reply) → not (ends_probe r) ≡ goes_on (control_heard b n r)
@@ -66,22 +66,40 @@ pub one_asked : (old new : Scripted) (setup : Setup) (answered : Bool) → Asks 
 one_asked old new setup true asked = first_passes old new setup [] new true asked (none_asked new)
 one_asked old new setup false asked = first_ends old new setup [] asked
 
-module _ (old mid new : Scripted) (driver : Driver) (i : ℕ) where
-  pub keyboard_ends : (a : Setup) (b : Bool) → driver ≡ Keyboard → a ≡ to_interface 0x21 0x0B 0 i 0 → Asks old a b mid → b ≡ false → AsksEach old (requests_of driver i) b mid
-  keyboard_ends a b is first asked ends =
-      subst (λ d. AsksEach old (requests_of d i) b mid) (sym is)
-      (subst (λ c. AsksEach old (requests_of Keyboard i) c mid) (sym ends)
-      (first_ends old mid (to_interface 0x21 0x0B 0 i 0) (to_interface 0x21 0x0A 0 i 0 ∷ []) (subst (λ s. Asks old s false mid) first (subst (λ c. Asks old a c mid) ends asked))))
+-- the requests of a keyboard's probe
+module _ (old mid : Scripted) (i : ℕ) where
+  pub keyboard_ends : (a : Setup) (b : Bool) → a ≡ to_interface 0x21 0x0B 0 i 0 → Asks old a b mid → b ≡ false → AsksEach old (requests_of Keyboard i) b mid
+  keyboard_ends a b first asked ends =
+      subst (λ c. AsksEach old (requests_of Keyboard i) c mid) (sym ends)
+      (first_ends old mid (to_interface 0x21 0x0B 0 i 0) (to_interface 0x21 0x0A 0 i 0 ∷ []) (subst (λ s. Asks old s false mid) first (subst (λ c. Asks old a c mid) ends asked)))
 
-  pub keyboard_both : (a e : Setup) (b c : Bool) → driver ≡ Keyboard → a ≡ to_interface 0x21 0x0B 0 i 0 → e ≡ to_interface 0x21 0x0A 0 i 0 → Asks old a b mid → b ≡ true → Asks mid e c new → AsksEach old (requests_of driver i) c new
-  keyboard_both a e b c is first second asked passes others =
-      subst (λ d. AsksEach old (requests_of d i) c new) (sym is)
-      (first_passes old mid (to_interface 0x21 0x0B 0 i 0) (to_interface 0x21 0x0A 0 i 0 ∷ []) new c
+  pub keyboard_both : (new : Scripted) (a e : Setup) (b c : Bool) → a ≡ to_interface 0x21 0x0B 0 i 0 → e ≡ to_interface 0x21 0x0A 0 i 0 → Asks old a b mid → b ≡ true → Asks mid e c new → AsksEach old (requests_of Keyboard i) c new
+  keyboard_both new a e b c first second asked passes others =
+      first_passes old mid (to_interface 0x21 0x0B 0 i 0) (to_interface 0x21 0x0A 0 i 0 ∷ []) new c
       (subst (λ s. Asks old s true mid) first (subst (λ c. Asks old a c mid) passes asked))
-      (one_asked mid new (to_interface 0x21 0x0A 0 i 0) c (subst (λ s. Asks mid s c new) second others)))
+      (one_asked mid new (to_interface 0x21 0x0A 0 i 0) c (subst (λ s. Asks mid s c new) second others))
 
-  pub acm_none : driver ≡ Acm → AsksEach old (requests_of driver i) true old
-  acm_none is = subst (λ d. AsksEach old (requests_of d i) true old) (sym is) (none_asked old)
+module _ (old new : Scripted) (driver : Driver) (i : ℕ) where
+  pub keyboard_asked : (b c : Bool) → driver ≡ Keyboard → AsksEach old (requests_of Keyboard i) b new → b ≡ c → AsksEach old (requests_of driver i) c new
+  keyboard_asked b c is asked same = subst (λ d. AsksEach old (requests_of d i) c new) (sym is) (subst (λ x. AsksEach old (requests_of Keyboard i) x new) same asked)
 
-  pub printer_one : (a : Setup) (b : Bool) → driver ≡ Printer → a ≡ to_interface 0xA1 0x00 0 (256 * i) 0x03FF → Asks old a b new → AsksEach old (requests_of driver i) b new
-  printer_one a b is first asked = subst (λ d. AsksEach old (requests_of d i) b new) (sym is) (one_asked old new (to_interface 0xA1 0x00 0 (256 * i) 0x03FF) b (subst (λ s. Asks old s b new) first asked))
+  pub acm_asked : driver ≡ Acm → AsksEach old (requests_of driver i) true old
+  acm_asked is = subst (λ d. AsksEach old (requests_of d i) true old) (sym is) (none_asked old)
+
+  pub printer_asked : (b : Bool) → driver ≡ Printer → Asks old (id_request i) b new → AsksEach old (requests_of driver i) b new
+  printer_asked b is asked = subst (λ d. AsksEach old (requests_of d i) b new) (sym is) (one_asked old new (id_request i) b asked)
+
+-- the id that a driver is told
+none_taken : (room : List ℕ) → take 0 room ≡ []
+none_taken [] = refl
+none_taken (x ∷ room) = refl
+
+module _ (old : Scripted) (driver : Driver) (i : ℕ) (room : List ℕ) where
+  pub keyboard_tells : driver ≡ Keyboard → TellsId old driver i (Some 0) room
+  keyboard_tells is = subst (λ d. TellsId old d i (Some 0) room) (sym is) (λ script calls stands fits. none_taken room)
+
+  pub acm_tells : driver ≡ Acm → TellsId old driver i (Some 0) room
+  acm_tells is = subst (λ d. TellsId old d i (Some 0) room) (sym is) (λ script calls stands fits. none_taken room)
+
+  pub printer_tells : (count : Option ℕ) → driver ≡ Printer → TellsId old Printer i count room → TellsId old driver i count room
+  printer_tells count is tells = subst (λ d. TellsId old d i count room) (sym is) tells

@@ -27,7 +27,7 @@ use Rattle.usb_scene.specs.WellFormed.{is_raw}
 use Rattle.usb_prepare.specs.declared.found.Probe.TheVariants as probe
 use Rattle.usb_prepare.specs.Enumerated.{after}
 use Rattle.usb_prepare.specs.Ends.{address_of}
-use Rattle.usb_prepare.specs.Probing.{requests_of, asking, ends_probe, Asked, ask_each, Probing, settled, probed_by, with_probe}
+use Rattle.usb_prepare.specs.Probing.{requests_of, asking, ends_probe, Asked, ask_each, id_told, Probing, settled, probed_by, with_probe}
 use Rattle.usb_prepare.specs.Prepared.{request_in, request_at, requests_heard, enumeration_of, probed_device}
 use Rattle.usb_prepare.proofs.Lists.{fold_keeps}
 
@@ -89,14 +89,14 @@ each_bare script calls (setup ∷ setups) is all = go (ends_probe (reply_to scri
     go true rest = more
     go false rest = rest
 
-settled_bare : (p : Probing) (b : Bound) (pool : Homes) (asked : Asked) → AreBare asked.calls → AreBare (settled p b pool asked).calls
-settled_bare p b pool asked is = go asked.answered
+settled_bare : (p : Probing) (b : Bound) (pool : Homes) (asked : Asked) (id : List ℕ) → AreBare asked.calls → AreBare (settled p b pool asked id).calls
+settled_bare p b pool asked id is = go asked.answered
   where
     same : Probing
     same = record p { calls = asked.calls; probes = p.probes ++ probe.Cancelled ∷ [] }
 
     more : Probing
-    more = record { board = with_binding p.board b; pool = pool; calls = asked.calls; probes = p.probes ++ probe.Bound ∷ [] }
+    more = record { board = with_binding p.board b; pool = pool; calls = asked.calls; probes = p.probes ++ probe.Bound ∷ []; ids = p.ids ++ id ∷ [] }
 
     go : (x : Bool) → AreBare (cond x more same).calls
     go true = is
@@ -109,7 +109,7 @@ probe_bare script d p alt is = go (probed p.board p.pool profile_rows d alt.numb
     pool = pool_after p.board p.pool profile_rows d alt.number
 
     go : (r : Result Bound ProbeFault) → AreBare (probed_by script p pool r).calls
-    go (Ok b) = settled_bare p b pool (ask_each script p.calls (requests_of b.driver b.interface)) (each_bare script p.calls (requests_of b.driver b.interface) is (driver_bare b.driver b.interface))
+    go (Ok b) = settled_bare p b pool (ask_each script p.calls (requests_of b.driver b.interface)) (id_told script p.calls b) (each_bare script p.calls (requests_of b.driver b.interface) is (driver_bare b.driver b.interface))
     go (Err fault) = is
 
 pub device_bare : (d : ℕ) (script : DeviceScript) (o : Option Attached) (p : Probing) → AreBare p.calls → AreBare (probed_device d script o p).calls

@@ -27,7 +27,7 @@ use Rattle.usb_scene.specs.declared.scene.SceneDevice.{SceneDevice}
 use Rattle.usb_scene.specs.declared.scene.SceneUrb.{SceneUrb}
 use Rattle.usb_scene.specs.WellFormed.{IsWellFormed}
 use Rattle.usb_prepare.specs.Ends.{attached_as, control_of, control_size, other_ends, device_ends, shapes_of, ends_of, first_end, firsts_of, home_at}
-use Rattle.usb_prepare.specs.Probing.{Asked, Probing, ask_each, requests_of, settled, probed_by, with_probe}
+use Rattle.usb_prepare.specs.Probing.{Asked, Probing, ask_each, id_told, requests_of, settled, probed_by, with_probe}
 use Rattle.usb_prepare.specs.Prepared.{Probes, with_device, probing_from, probed_device, probed_from, enumeration_of, attached_from, board_of, pool_of, probes_of}
 use Rattle.usb_prepare.proofs.Below.{get-map_below}
 use Rattle.usb_prepare.specs.declared.found.Probe.TheVariants as probe
@@ -82,6 +82,7 @@ pub record IsBoarded (s : Scene) (board : BoardValue) (pool : Homes) : Type 0 wh
   pub low : (k h : ℕ) → slice_get drivers k ≡ Some h → h < ends_of s
   pub urbs : (i k : ℕ) (u : UrbId) → HasUrb board.bindings i k u → (length s.urbs ≤ u.0) × (u.0 < length s.urbs + length drivers)
   pub once : (i j k l : ℕ) (u : UrbId) → HasUrb board.bindings i k u → HasUrb board.bindings j l u → (i ≡ j) × (k ≡ l)
+  pub rise : (i k l : ℕ) (u v : UrbId) → HasUrb board.bindings i k u → HasUrb board.bindings i l v → k < l → u.0 < v.0
   pub count : length board.bindings ≤ length drivers
   pub homes : (i k : ℕ) (u : UrbId) (has : HasUrb board.bindings i k u) → HasHome s (own_homes s ++ drivers) has.0 k u.0
 
@@ -97,6 +98,7 @@ boarded_start s good = record {
   low = λ k h at. cc;
   urbs = λ i k u has. cc;
   once = λ i j k l u a b. cc;
+  rise = λ i k l u v a b less. cc;
   count = omega arith;
   homes = λ i k u has. cc;
 }
@@ -222,6 +224,21 @@ module _ (s : Scene) (good : IsWellFormed s) (board : BoardValue) (pool : Homes)
       (either_urb j l u q))
       (either_urb i k u p)
 
+  old_there : (i k : ℕ) (u : UrbId) → HasUrb board.bindings i k u → i < length board.bindings
+  old_there i k u has = slice_get_within board.bindings i has.0 has.1
+
+  all_rise : (i k l : ℕ) (u v : UrbId) → HasUrb bindings i k u → HasUrb bindings i l v → k < l → u.0 < v.0
+  all_rise i k l u v p q less = ⊎_elim
+      (λ (x : HasUrb board.bindings i k u). ⊎_elim
+      (λ (y : HasUrb board.bindings i l v). old.rise i k l u v x y less)
+      (λ (y : IsNew i l v). let near = old_there i k u x in let at = y.0 in absurd (omega arith))
+      (either_urb i l v q))
+      (λ (x : IsNew i k u). ⊎_elim
+      (λ (y : HasUrb board.bindings i l v). let near = old_there i l v y in let at = x.0 in absurd (omega arith))
+      (λ (y : IsNew i l v). let a = (new_urb k u x.1).0 in let c = (new_urb l v y.1).0 in omega arith)
+      (either_urb i l v q))
+      (either_urb i k u p)
+
   -- and their homes
   new_home : (k : ℕ) (u : UrbId) → slice_get b.urbs k ≡ Some (Some u) → HasHome s ((own ++ old.drivers) ++ new) b k u.0
   new_home k u at =
@@ -261,19 +278,20 @@ module _ (s : Scene) (good : IsWellFormed s) (board : BoardValue) (pool : Homes)
     low = all_low;
     urbs = all_urbs;
     once = all_once;
+    rise = all_rise;
     count = (let some = due.some in let count = old.count in let sum = new_long_sum in let long = new_long in let one = length-append board.bindings (b ∷ []) in omega arith);
     homes = all_homes;
   }
 
 module _ (s : Scene) (good : IsWellFormed s) where
-  settled_boarded : (p : Probing) (b : Bound) (pool : Homes) (asked : Asked) → IsBoarded s p.board p.pool → IsBoarded s (with_binding p.board b) pool → IsBoarded s (settled p b pool asked).board (settled p b pool asked).pool
-  settled_boarded p b pool asked old new = go asked.answered
+  settled_boarded : (p : Probing) (b : Bound) (pool : Homes) (asked : Asked) (id : List ℕ) → IsBoarded s p.board p.pool → IsBoarded s (with_binding p.board b) pool → IsBoarded s (settled p b pool asked id).board (settled p b pool asked id).pool
+  settled_boarded p b pool asked id old new = go asked.answered
     where
       same : Probing
       same = record p { calls = asked.calls; probes = p.probes ++ probe.Cancelled ∷ [] }
 
       more : Probing
-      more = record { board = with_binding p.board b; pool = pool; calls = asked.calls; probes = p.probes ++ probe.Bound ∷ [] }
+      more = record { board = with_binding p.board b; pool = pool; calls = asked.calls; probes = p.probes ++ probe.Bound ∷ []; ids = p.ids ++ id ∷ [] }
 
       go : (x : Bool) → IsBoarded s (cond x more same).board (cond x more same).pool
       go true = new
@@ -286,7 +304,7 @@ module _ (s : Scene) (good : IsWellFormed s) where
       pool = pool_after p.board p.pool profile_rows d alt.number
 
       go : (r : Result Bound ProbeFault) → probed p.board p.pool profile_rows d alt.number ≡ r → IsBoarded s (probed_by script p pool r).board (probed_by script p pool r).pool
-      go (Ok b) at = settled_boarded p b pool (ask_each script p.calls (requests_of b.driver b.interface)) old
+      go (Ok b) at = settled_boarded p b pool (ask_each script p.calls (requests_of b.driver b.interface)) (id_told script p.calls b) old
           (boarded_more s good p.board p.pool old profile_rows d alt.number b (is_due p.board p.pool profile_rows d alt.number b at))
       go (Err fault) at = old
 
@@ -302,4 +320,4 @@ module _ (s : Scene) (good : IsWellFormed s) where
 
   pub boarded : IsBoarded s (probes_of s).board (probes_of s).pool
   unfolding probes_of
-  boarded = all_boarded 0 s.devices record { board = board_of s; pool = pool_of s; heard = []; probes = [] } (boarded_start s good)
+  boarded = all_boarded 0 s.devices record { board = board_of s; pool = pool_of s; heard = []; probes = []; ids = [] } (boarded_start s good)

@@ -30,10 +30,9 @@ use Rattle.usb_bind.specs.Board.{is_binding_of, urb_by, urb_of_role}
 use Rattle.usb_scene.specs.declared.scene.Scene.{Scene}
 use Rattle.usb_scene.specs.declared.scene.SceneDevice.{SceneDevice}
 use Rattle.usb_scene.specs.declared.scene.SceneUrb.{SceneUrb}
-use Rattle.usb_scene.specs.WellFormed.{HasEnd, IsUrb, is_raw, IsWellFormed}
-use Rattle.usb_prepare.specs.Enumerated.{attached_of}
-use Rattle.usb_prepare.specs.Ends.{address_of, attached_as, control_of, control_end, control_size, other_ends, device_ends, shapes_of, ends_of, first_end, is_at, home_at, or_control, shape_at, raw_in, is_raw_at}
-use Rattle.usb_prepare.specs.Prepared.{probes_of, bindings_of}
+use Rattle.usb_scene.specs.WellFormed.{HasEnd, IsUrb, IsWellFormed}
+use Rattle.usb_prepare.specs.Ends.{attached_as, control_of, control_end, control_size, other_ends, device_ends, shapes_of, ends_of, first_end, is_at, home_at, or_control, shape_at, raw_in, is_raw_at}
+use Rattle.usb_prepare.specs.Prepared.{probes_of, bindings_of, ids_of}
 use Rattle.usb_prepare.specs.Layout.{homes_of, layout_of, urb_count, home, urb_in, role_urb}
 use Rattle.usb_prepare.proofs.Numbering as numbering
 use Rattle.usb_prepare.proofs.Numbering.{devices_at}
@@ -41,11 +40,12 @@ use Rattle.usb_prepare.proofs.Apart.{AreApart, shapes_apart, shapes_between, sta
 use Rattle.usb_prepare.proofs.Homed.{homes_at}
 use Rattle.usb_prepare.proofs.Asked.{asked_at_home}
 use Rattle.usb_prepare.proofs.Pooled.{up_to_out}
-use Rattle.usb_prepare.proofs.Lists.{in_either, in_front, is_there}
+use Rattle.usb_prepare.proofs.Lists.{in_either, in_front}
 use Rattle.usb_prepare.proofs.Host.{host_apart}
 pub use Rattle.usb_prepare.proofs.Needed.{brings}
 use Rattle.usb_prepare.proofs.Needed.{IsFor}
 use Rattle.usb_prepare.proofs.Boarded.{own_homes, behind_first, HasHome, IsBoarded, boarded}
+use Rattle.usb_prepare.proofs.Ids.{attached_not_raw, told}
 use Rattle.usb_prepare.proofs.Bare.{bare_elsewhere, bare_halts}
 use Rattle.usb_prepare.proofs.Whole.{heard_bare}
 use Rattle.usb_bind.specs.Pool.{up_to_last}
@@ -90,6 +90,36 @@ named Acm (suc (suc (suc (suc (suc k))))) role at = cc
 named Printer zero role at = cc
 named Printer (suc zero) role at = cc
 named Printer (suc (suc k)) role at = cc
+
+-- the slot of a driver's control URB, which is its last
+ctl_slot : Driver → ℕ
+ctl_slot Keyboard = 1
+ctl_slot Acm = 4
+ctl_slot Printer = 1
+
+ctl_last : (driver : Driver) (l : ℕ) → role_at driver l ≡ Ctl → ctl_slot driver ≤ l
+unfolding role_at ctl_slot
+ctl_last Keyboard zero is = cc
+ctl_last Keyboard (suc l) is = omega arith
+ctl_last Acm zero is = cc
+ctl_last Acm (suc zero) is = cc
+ctl_last Acm (suc (suc zero)) is = cc
+ctl_last Acm (suc (suc (suc zero))) is = cc
+ctl_last Acm (suc (suc (suc (suc l)))) is = omega arith
+ctl_last Printer zero is = cc
+ctl_last Printer (suc l) is = omega arith
+
+write_before : (driver : Driver) (k : ℕ) → role_at driver k ≡ Write → k < ctl_slot driver
+unfolding role_at ctl_slot
+write_before Keyboard zero is = cc
+write_before Keyboard (suc k) is = cc
+write_before Acm zero is = cc
+write_before Acm (suc zero) is = cc
+write_before Acm (suc (suc zero)) is = cc
+write_before Acm (suc (suc (suc zero))) is = omega arith
+write_before Acm (suc (suc (suc (suc k)))) is = cc
+write_before Printer zero is = omega arith
+write_before Printer (suc k) is = cc
 
 IsSlot : Driver → Bound → Role → UrbId → Type 0
 IsSlot driver b role u = (k : ℕ) × (slice_get b.urbs k ≡ Some (Some u)) × (role_at driver k ≡ role)
@@ -180,15 +210,7 @@ other_place ends Read0 place off is = is
 other_place ends Read1 place off is = is
 other_place ends Write place off is = is
 
--- a device that is enumerated isn't raw, and has endpoint 00 and those of its configuration
-attached_not_raw : (d : ℕ) (device : SceneDevice) (a : Attached) → attached_as d device ≡ Some a → is_raw device.script.kind ≡ false
-unfolding attached_as
-attached_not_raw d device a is = go (is_raw device.script.kind) is
-  where
-    go : (raw : Bool) → cond raw None (attached_of device.script (address_of d)) ≡ Some a → raw ≡ false
-    go true e = cc
-    go false e = refl
-
+-- a device that is enumerated has endpoint 00 and those of its configuration
 first_of : (d : ℕ) (device : SceneDevice) → slice_get (device_ends d device) 0 ≡ Some (control_of d (control_size (attached_as d device)))
 unfolding device_ends
 first_of d device = refl
@@ -374,6 +396,16 @@ module _ (s : Scene) (good : IsWellFormed s) where
       one_of : {v w : Bound} → ◌≡◌ {A = Option Bound} (Some v) (Some w) → v ≡ w
       one_of p = cc
 
+  -- a binding writes with an URB of a lower number than its control URB has
+  pub bound_rises : (i : ℕ) (b : Bound) (u v : UrbId) → slice_get (bindings_of s) i ≡ Some b → urb_of_role b Write ≡ Some u → urb_of_role b Ctl ≡ Some v → u.0 < v.0
+  unfolding IsSlot
+  bound_rises i b u v at writes asks =
+      let x = by_driver b.driver b Write u writes in
+      let y = by_driver b.driver b Ctl v asks in
+      let early = write_before b.driver x.0 x.2 in
+      let late = ctl_last b.driver y.0 y.2 in
+      known.rise i x.0 y.0 u v (b, at, x.1) (b, at, y.1) (omega arith)
+
   -- a binding's URBs stand behind the scene's own
   pub bound_near : (i : ℕ) (b : Bound) (role : Role) (u : UrbId) → slice_get (bindings_of s) i ≡ Some b → urb_of_role b role ≡ Some u → (length s.urbs ≤ u.0) × (u.0 < urb_count s)
   unfolding IsSlot
@@ -386,6 +418,13 @@ module _ (s : Scene) (good : IsWellFormed s) where
   -- each has one or more of the 256
   pub bindings_few : length (bindings_of s) ≤ 256
   bindings_few = let count = known.count in let all = known.all in omega arith
+
+  -- each was told an id, of at most the 1,023 bytes that are asked for
+  pub ids_few : length (ids_of s) ≡ length (bindings_of s)
+  ids_few = (told s good).count
+
+  pub ids_short : All (λ (id : List ℕ). length id ≤ 1023) (ids_of s)
+  ids_short = (told s good).short
 
   -- the k-th endpoint of a device
   kth_end : (d k : ℕ) (device : SceneDevice) (x : Shape) → slice_get s.devices d ≡ Some device → slice_get (device_ends d device) k ≡ Some x → shape_at s (first_end s.devices d + k) ≡ x

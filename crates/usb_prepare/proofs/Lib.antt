@@ -20,6 +20,7 @@ mod Probed
 mod InFace
 mod Begins
 mod Bare
+mod Ids
 pub mod Facts
 pub mod Short
 mod Whole

@@ -22,7 +22,7 @@ use Rattle.usb_bind.proofs.Binding.{is_made}
 use Rattle.usb_prepare.specs.declared.found.Probe.{Probe}
 use Rattle.usb_prepare.specs.declared.found.Probe.TheVariants as probe
 use Rattle.usb_prepare.specs.declared.probing.Bindings.{Bindings}
-use Rattle.usb_prepare.specs.Probing.{Asked, Probing, requests_of, ask_each, probed_by, with_probe, AsksEach}
+use Rattle.usb_prepare.specs.Probing.{Asked, Probing, requests_of, ask_each, id_by, id_told, probed_by, with_probe, AsksEach, FitsRoom, TellsId}
 use Rattle.usb_prepare.specs.Prepared.{probed_device}
 use Rattle.usb_prepare.specs.Bindings.{numbers_of, IsProbing}
 
@@ -41,15 +41,16 @@ module _ (script : DeviceScript) (p : Probing) (probes : List Probe) (old : Bind
   behind_is j = pool_after (far.board j) (far.pool j) (rows_so j) n i
 
   module _ (new : Bindings) (asked : Scripted) (r : Result Bound ProbeFault) (told : r ≡ probed old.board old.pool rows n i) where
-    pub refused_so : (fault : ProbeFault) → r ≡ Err fault → new.board ≡ board_after old.board r → new.pool ≡ pool_after old.board old.pool rows n i → asked ≡ device
+    pub refused_so : (fault : ProbeFault) → r ≡ Err fault → new.board ≡ board_after old.board r → new.pool ≡ pool_after old.board old.pool rows n i → new.ids ≡ old.ids → asked ≡ device
         → IsProbing (probed_by script p behind due) script new asked (probes ++ probe.Refused fault ∷ [])
-    refused_so fault is board pool same =
+    refused_so fault is board pool ids same =
         let e : due ≡ Err fault = sym due_is ∙ (sym told ∙ is) in
         subst (λ (x : Result Bound ProbeFault). IsProbing (probed_by script p behind x) script new asked (probes ++ probe.Refused fault ∷ [])) (sym e) record {
           board = board ∙ (ap (board_after old.board) is ∙ far.board);
           pool = pool ∙ (behind_is ∙ (refused p.board p.pool profile_rows n i fault e).1);
           heard = subst (λ (d : Scripted). Stands d script p.calls) (sym same) far.heard;
           went = ap (λ l. l ++ probe.Refused fault ∷ []) far.went;
+          told = ids ∙ far.told;
         }
 
     module _ (b : Bound) (is : r ≡ Ok b) where
@@ -65,9 +66,14 @@ module _ (script : DeviceScript) (p : Probing) (probes : List Probe) (old : Bind
       answered_so : (answered : Bool) → AsksEach device (requests_of b.driver i) answered asked → (reply.answered ≡ answered) × Stands asked script reply.calls
       answered_so answered asks = let at = subst (λ j. AsksEach device (requests_of b.driver j) answered asked) (sym own) asks in at script p.calls far.heard
 
-      pub bound_so : AsksEach device (requests_of b.driver i) true asked → new.board ≡ board_after old.board r → new.pool ≡ pool_after old.board old.pool rows n i
+      -- the first bytes of the room are the id that was told
+      told_so : (count : ℕ) (room id : List ℕ) → FitsRoom script → TellsId device b.driver i (Some count) room → id ≡ take count room → id ≡ id_told script p.calls b
+      told_so count room id fits tells copied = copied ∙ (tells script p.calls far.heard fits ∙ ap (id_by b.driver script p.calls) (sym own))
+
+      pub bound_so : (count : ℕ) (room id : List ℕ) → FitsRoom script → TellsId device b.driver i (Some count) room → id ≡ take count room
+          → AsksEach device (requests_of b.driver i) true asked → new.board ≡ board_after old.board r → new.pool ≡ pool_after old.board old.pool rows n i → new.ids ≡ old.ids ++ id ∷ []
           → IsProbing (probed_by script p behind due) script new asked (probes ++ probe.Bound ∷ [])
-      bound_so asks board pool =
+      bound_so count room id fits tells copied asks board pool ids =
           let a = answered_so true asks in
           subst (λ (x : Result Bound ProbeFault). IsProbing (probed_by script p behind x) script new asked (probes ++ probe.Bound ∷ [])) (sym e)
           (subst (λ (c : Bool). IsProbing (cond c more none) script new asked (probes ++ probe.Bound ∷ [])) (sym a.0) record {
@@ -75,17 +81,18 @@ module _ (script : DeviceScript) (p : Probing) (probes : List Probe) (old : Bind
             pool = pool ∙ behind_is;
             heard = a.1;
             went = ap (λ l. l ++ probe.Bound ∷ []) far.went;
+            told = ids ∙ (λ j. far.told j ++ told_so count room id fits tells copied j ∷ []);
           })
         where
           more : Probing
-          more = record { board = with_binding p.board b; pool = behind; calls = reply.calls; probes = p.probes ++ probe.Bound ∷ [] }
+          more = record { board = with_binding p.board b; pool = behind; calls = reply.calls; probes = p.probes ++ probe.Bound ∷ []; ids = p.ids ++ id_told script p.calls b ∷ [] }
 
           none : Probing
           none = record p { calls = reply.calls; probes = p.probes ++ probe.Cancelled ∷ [] }
 
-      pub cancelled_so : AsksEach device (requests_of b.driver i) false asked → new.board ≡ without (board_after old.board r) b → new.pool ≡ released_all (pool_after old.board old.pool rows n i) b.urbs
+      pub cancelled_so : AsksEach device (requests_of b.driver i) false asked → new.board ≡ without (board_after old.board r) b → new.pool ≡ released_all (pool_after old.board old.pool rows n i) b.urbs → new.ids ≡ old.ids
           → IsProbing (probed_by script p behind due) script new asked (probes ++ probe.Cancelled ∷ [])
-      cancelled_so asks board pool =
+      cancelled_so asks board pool ids =
           let a = answered_so false asks in
           let undone = cancel_undoes old.board old.pool rows n i b (sym told ∙ is) in
           subst (λ (x : Result Bound ProbeFault). IsProbing (probed_by script p behind x) script new asked (probes ++ probe.Cancelled ∷ [])) (sym e)
@@ -94,10 +101,11 @@ module _ (script : DeviceScript) (p : Probing) (probes : List Probe) (old : Bind
             pool = pool ∙ (undone.1 ∙ far.pool);
             heard = a.1;
             went = ap (λ l. l ++ probe.Cancelled ∷ []) far.went;
+            told = ids ∙ far.told;
           })
         where
           more : Probing
-          more = record { board = with_binding p.board b; pool = behind; calls = reply.calls; probes = p.probes ++ probe.Bound ∷ [] }
+          more = record { board = with_binding p.board b; pool = behind; calls = reply.calls; probes = p.probes ++ probe.Bound ∷ []; ids = p.ids ++ id_told script p.calls b ∷ [] }
 
           none : Probing
           none = record p { calls = reply.calls; probes = p.probes ++ probe.Cancelled ∷ [] }

@@ -28,7 +28,7 @@ use Rattle.usb_prepare.specs.declared.found.Probe.TheVariants as probe
 use Rattle.usb_prepare.specs.declared.probing.Bindings.{Bindings}
 use Rattle.usb_prepare.specs.Enumerated.{enumerated, attached_in, fault_in}
 use Rattle.usb_prepare.specs.Ends.{address_of, attached_as, first_end, firsts_of}
-use Rattle.usb_prepare.specs.Probing.{Asked, Probing, ask_each, requests_of, probed_by, with_probe}
+use Rattle.usb_prepare.specs.Probing.{Asked, Probing, ask_each, id_told, requests_of, FitsRoom, probed_by, with_probe}
 use Rattle.usb_prepare.specs.Prepared.{Probes, with_device, probing_from, probed_device, probed_from, requests_heard, enumeration_of, attached_from, board_of, probes_of, found_attached, found_enumerated, found_as, found_from, found_of}
 use Rattle.usb_prepare.specs.Bindings.{IsProbing, found_by, fault_as, faults_from, HaveHeard, enumerations_from, probes_before, front_probed, AreProbed}
 use Rattle.usb_prepare.specs.Ready.{AreReady}
@@ -37,6 +37,7 @@ use Rattle.usb_prepare.proofs.Lists.{in_longer, take_all, set_here, set_elsewher
 use Rattle.usb_prepare.proofs.Numbering.{few_ends, first_within}
 use Rattle.usb_prepare.proofs.Taking.{attached_long}
 use Rattle.usb_prepare.proofs.Boarded.{boarded_start, all_boarded}
+use Rattle.usb_prepare.proofs.Ids.{fits_room}
 use Rattle.usb_prepare.proofs.Bare.{AreBare, enumeration_bare, device_bare, bare_elsewhere, bare_halts}
 
 some_same : {X : Type 0} {x y : X} → Some x ≡ Some y → x ≡ y
@@ -143,13 +144,13 @@ one_probe script d p alt = go (probed p.board p.pool profile_rows d alt.number)
     same : Probing → Asked → Probing
     same p asked = record p { calls = asked.calls; probes = p.probes ++ probe.Cancelled ∷ [] }
 
-    settle : (b : Bound) (asked : Asked) (x : Bool)
-        → length (cond x (record { board = with_binding p.board b; pool = pool; calls = asked.calls; probes = p.probes ++ probe.Bound ∷ [] }) (same p asked)).probes ≡ length p.probes + 1
-    settle b asked true = length-append p.probes (probe.Bound ∷ [])
-    settle b asked false = length-append p.probes (probe.Cancelled ∷ [])
+    settle : (b : Bound) (asked : Asked) (id : List ℕ) (x : Bool)
+        → length (cond x (record { board = with_binding p.board b; pool = pool; calls = asked.calls; probes = p.probes ++ probe.Bound ∷ []; ids = p.ids ++ id ∷ [] }) (same p asked)).probes ≡ length p.probes + 1
+    settle b asked id true = length-append p.probes (probe.Bound ∷ [])
+    settle b asked id false = length-append p.probes (probe.Cancelled ∷ [])
 
     go : (r : Result Bound ProbeFault) → length (probed_by script p pool r).probes ≡ length p.probes + 1
-    go (Ok b) = settle b (ask_each script p.calls (requests_of b.driver b.interface)) (ask_each script p.calls (requests_of b.driver b.interface)).answered
+    go (Ok b) = settle b (ask_each script p.calls (requests_of b.driver b.interface)) (id_told script p.calls b) (ask_each script p.calls (requests_of b.driver b.interface)).answered
     go (Err fault) = length-append p.probes (probe.Refused fault ∷ [])
 
 each_probed : (script : DeviceScript) (d : ℕ) (alts : List Alt) (p : Probing) → length (fold (with_probe script d) p alts).probes ≡ length p.probes + length alts
@@ -215,11 +216,12 @@ module _ (s : Scene) (good : IsWellFormed s) where
       let is = all_boarded s good 0 (take k s.devices) (probes_before s) (boarded_start s good) in
       ap (λ l. option_flatten (slice_get l d)) is.devices ∙ attached_get 0 d s.devices x at ∙ ap (λ n. attached_as n x) (zero-add d)
 
-  pub probed_start : (bindings : Bindings) (all : List Scripted) → bindings.board ≡ board_of s → bindings.pool ≡ (probes_before s).pool → HaveHeard s.devices (enumerations_from 0 s.devices) all → AreProbed s 0 bindings all []
-  probed_start bindings all board pool heard = record {
+  pub probed_start : (bindings : Bindings) (all : List Scripted) → bindings.board ≡ board_of s → bindings.pool ≡ (probes_before s).pool → bindings.ids ≡ [] → HaveHeard s.devices (enumerations_from 0 s.devices) all → AreProbed s 0 bindings all []
+  probed_start bindings all board pool ids heard = record {
     board = board;
     pool = pool;
     went = refl;
+    told = ids;
     count = heard.count;
     asked = λ d device calls one at asked there. cc;
     later = λ d device one l at there. heard.each d device (enumeration_of d device) one at (enumerations_get 0 d s.devices device at ∙ ap (λ n. Some (enumeration_of n device)) (zero-add d)) there;
@@ -227,8 +229,8 @@ module _ (s : Scene) (good : IsWellFormed s) where
 
   -- one device more is probed
   pub probed_more : (k : ℕ) (old new : Bindings) (all : List Scripted) (entry after : Scripted) (probes : List (List Probe)) (went : List Probe) → k < length all → AreProbed s k old all probes
-      → ((script : DeviceScript) (calls : List Call) → Stands (get_or all k entry) script calls
-      → IsProbing (probed_device k script (attached_at old.board k) (record { board = old.board; pool = old.pool; calls = calls; probes = [] })) script new after went)
+      → ((script : DeviceScript) (calls : List Call) → Stands (get_or all k entry) script calls → FitsRoom script
+      → IsProbing (probed_device k script (attached_at old.board k) (record { board = old.board; pool = old.pool; calls = calls; probes = []; ids = old.ids })) script new after went)
       → AreProbed s (k + 1) new (slice_set all k after) (probes ++ went ∷ [])
   probed_more k old new all entry after probes went near are goes =
       let same_count = are.count in
@@ -241,14 +243,15 @@ module _ (s : Scene) (good : IsWellFormed s) where
       let more : front_probed s (k + 1) ≡ with_device w p = front_more s k x close ∙ ap (λ y. with_device w (own_probing k y w)) own in
       let attached : attached_at old.board k ≡ attached_as k x = ap (λ b. attached_at b k) are.board ∙ front_attached k k x there in
       let stands : Stands (get_or all k entry) x.script (enumeration_of k x) = are.later k x (get_or all k entry) (omega arith) there (slice_get-get_or all k entry near) in
-      let same : probed_device k x.script (attached_at old.board k) (record { board = old.board; pool = old.pool; calls = enumeration_of k x; probes = [] }) ≡ p =
-      (λ i. probed_device k x.script (attached i) (record { board = are.board i; pool = are.pool i; calls = enumeration_of k x; probes = [] })) in
-      let is : IsProbing p x.script new after went = subst (λ q. IsProbing q x.script new after went) same (goes x.script (enumeration_of k x) stands) in
+      let same : probed_device k x.script (attached_at old.board k) (record { board = old.board; pool = old.pool; calls = enumeration_of k x; probes = []; ids = old.ids }) ≡ p =
+      (λ i. probed_device k x.script (attached i) (record { board = are.board i; pool = are.pool i; calls = enumeration_of k x; probes = []; ids = are.told i })) in
+      let is : IsProbing p x.script new after went = subst (λ q. IsProbing q x.script new after went) same (goes x.script (enumeration_of k x) stands (fits_room k x (good.devices k x there))) in
       let long : length w.heard ≡ k = heard_long s x k (omega arith) in
       record {
         board = is.board ∙ sym (ap (λ w. w.board) more);
         pool = is.pool ∙ sym (ap (λ w. w.pool) more);
         went = (λ i. are.went i ++ is.went i ∷ []) ∙ sym (ap (λ w. w.probes) more);
+        told = is.told ∙ sym (ap (λ w. w.ids) more);
         count = set_long all k after ∙ are.count;
         asked = λ d device calls one here heard made. ⊎_elim
             (λ (e : slice_get w.heard d ≡ Some calls).
@@ -302,6 +305,9 @@ module _ (s : Scene) (good : IsWellFormed s) where
 
     pub pool_so : bindings.pool ≡ (probes_of s).pool
     pool_so = are.pool ∙ ap (λ w. w.pool) (front_all s)
+
+    pub ids_so : bindings.ids ≡ (probes_of s).ids
+    ids_so = are.told ∙ ap (λ w. w.ids) (front_all s)
 
     pub probes_so : probes ≡ (probes_of s).probes
     probes_so = are.went ∙ ap (λ w. w.probes) (front_all s)

@@ -24,7 +24,7 @@ use Rattle.usb_prepare.specs.Ends.{address_of, attached_as, shapes_of}
 use Rattle.usb_prepare.specs.Prepared.{enumeration_of, attached_from, board_of, pool_of, Probes, probed_from, found_attached}
 use Rattle.usb_prepare.specs.declared.found.Probe.{Probe}
 use Rattle.usb_prepare.specs.declared.probing.Bindings.{Bindings}
-use Rattle.usb_prepare.specs.Probing.{Probing, probed_by}
+use Rattle.usb_prepare.specs.Probing.{Probing, probed_by, FitsRoom}
 
 -- the numbers of a device's interfaces
 abbrev pub numbers_of : Option Attached → List ℕ
@@ -36,10 +36,11 @@ pub record IsProbing (p : Probing) (script : DeviceScript) (bindings : Bindings)
   pub pool : bindings.pool ≡ p.pool
   pub heard : Stands device script p.calls
   pub went : probes ≡ p.probes
+  pub told : bindings.ids ≡ p.ids
 
 -- one interface was probed, and this is how it went
 abbrev pub HasProbed : Bindings → Scripted → ℕ → ℕ → Probe → Bindings → Scripted → Type 0
-HasProbed old device number interface went new asked = (script : DeviceScript) (p : Probing) (probes : List Probe) → IsProbing p script old device probes
+HasProbed old device number interface went new asked = (script : DeviceScript) (p : Probing) (probes : List Probe) → IsProbing p script old device probes → FitsRoom script
     → IsProbing (probed_by script p (pool_after p.board p.pool profile_rows number interface) (probed p.board p.pool profile_rows number interface)) script new asked (probes ++ went ∷ [])
 
 -- what a device is found to be, by the fault of its enumeration, if it has one
@@ -84,7 +85,7 @@ pub record AreBegun (devices : List SceneDevice) (begun : Begun) : Type 0 where
 
 -- before the first probe
 abbrev pub probes_before : Scene → Probes
-probes_before s = record { board = board_of s; pool = pool_of s; heard = []; probes = [] }
+probes_before s = record { board = board_of s; pool = pool_of s; heard = []; probes = []; ids = [] }
 
 -- the first k devices of the scene are probed, and the others are enumerated
 abbrev pub front_probed : Scene → ℕ → Probes
@@ -94,6 +95,7 @@ pub record AreProbed (s : Scene) (k : ℕ) (bindings : Bindings) (all : List Scr
   pub board : bindings.board ≡ (front_probed s k).board
   pub pool : bindings.pool ≡ (front_probed s k).pool
   pub went : probes ≡ (front_probed s k).probes
+  pub told : bindings.ids ≡ (front_probed s k).ids
   pub count : length all ≡ length s.devices
   pub asked : (d : ℕ) (device : SceneDevice) (calls : List Call) (one : Scripted) → slice_get s.devices d ≡ Some device → slice_get (front_probed s k).heard d ≡ Some calls → slice_get all d ≡ Some one → Stands one device.script calls
   pub later : (d : ℕ) (device : SceneDevice) (one : Scripted) → k ≤ d → slice_get s.devices d ≡ Some device → slice_get all d ≡ Some one → Stands one device.script (enumeration_of d device)
@@ -108,4 +110,5 @@ pub record AddsOne (old : Begun) (one : One) (new : Begun) : Type 0 where
 pub record IsOpened (s : Scene) (o : Opened) : Type 0 where
   pub board : o.bindings.board ≡ board_of s
   pub pool : o.bindings.pool ≡ pool_of s
+  pub ids : o.bindings.ids ≡ []
   pub shapes : o.shapes ≡ shapes_of s

@@ -46,18 +46,20 @@ requests_heard script address (suc n) = requests_heard script address n ++ reque
 abbrev pub enumeration_of : ℕ → SceneDevice → List Call
 enumeration_of d device = if is_raw device.script.kind then [] else requests_heard device.script (address_of d) 6
 
--- how far the probes are: the board and the pool, and of each device so far what it heard and how its probes went
+-- how far the probes are: the board and the pool; of each device so far what it heard and how its probes went; and the id that
+-- each binding of the board was told
 pub record Probes : Type 0 where
   pub board : BoardValue
   pub pool : Homes
   pub heard : List (List Call)
   pub probes : List (List Probe)
+  pub ids : List (List ℕ)
 
 abbrev pub with_device : Probes → Probing → Probes
-with_device w p = record { board = p.board; pool = p.pool; heard = w.heard ++ p.calls ∷ []; probes = w.probes ++ p.probes ∷ [] }
+with_device w p = record { board = p.board; pool = p.pool; heard = w.heard ++ p.calls ∷ []; probes = w.probes ++ p.probes ∷ []; ids = p.ids }
 
 abbrev pub probing_from : Probes → List Call → Probing
-probing_from w calls = record { board = w.board; pool = w.pool; calls = calls; probes = [] }
+probing_from w calls = record { board = w.board; pool = w.pool; calls = calls; probes = []; ids = w.ids }
 
 -- the interfaces of a device that is enumerated are probed
 abbrev pub probed_device : ℕ → DeviceScript → Option Attached → Probing → Probing
@@ -84,11 +86,15 @@ pool_of s = fold taken_from (replicate 256 None) (map (λ u. or_zero (home_at s 
 
 -- all interfaces of all devices are probed
 unfoldable pub probes_of : Scene → Probes
-probes_of s = probed_from 0 s.devices (record { board = board_of s; pool = pool_of s; heard = []; probes = [] })
+probes_of s = probed_from 0 s.devices (record { board = board_of s; pool = pool_of s; heard = []; probes = []; ids = [] })
 
 -- the bindings, in the order in which they were made
 abbrev pub bindings_of : Scene → List Bound
 bindings_of s = (probes_of s).board.bindings
+
+-- the id that each of them was told when its interface was probed; none but a printer's driver asks for one
+abbrev pub ids_of : Scene → List (List ℕ)
+ids_of s = (probes_of s).ids
 
 -- who has an interface at the end: a driver, or why none
 abbrev pub taken_by : Option Driver → Probe → Taken

@@ -1,10 +1,10 @@
 -- The probes of a device's interfaces: each is matched and bound, and asked the requests of its driver.
-use Rattle.std.specs.Prelude.{ℕ, ◌≡◌, ◌*◌, Bool, true, false, not, if◌then◌else◌, List, [], ◌∷◌, ◌++◌, fold, Result, Ok, Err}
+use Rattle.std.specs.Prelude.{ℕ, ◌≡◌, ◌*◌, ◌≤◌, Bool, true, false, not, if◌then◌else◌, List, [], ◌∷◌, ◌++◌, fold, length, take, Option, Some, None, IfSome, Result, Ok, Err}
 use Rattle.usb_ctrl.specs.declared.setup.Setup.{Setup}
 use Rattle.usb_desc.specs.declared.tree.ConfigTree.{ConfigTree}
 use Rattle.usb_desc.specs.declared.tree.Alt.{Alt}
 use Rattle.usb_xfer.specs.Replies.{Reply, Ask}
-use Rattle.usb_xfer.specs.declared.script.What.TheVariants.{Nak, Error}
+use Rattle.usb_xfer.specs.declared.script.What.TheVariants.{Nak, Error, Packet}
 use Rattle.usb_xfer.specs.declared.script.DeviceScript.{DeviceScript}
 use Rattle.usb_xfer.specs.declared.device.CtrlReply.{CtrlReply}
 use Rattle.usb_xfer.specs.declared.device.CtrlReply.TheVariants as heard
@@ -26,12 +26,15 @@ use Rattle.usb_prepare.specs.declared.found.Probe.TheVariants as probe
 abbrev pub to_interface : ℕ → ℕ → ℕ → ℕ → ℕ → Setup
 to_interface kind request value index size = record { kind = kind; request = request; value = value; index = index; length = size }
 
--- what a driver asks of its interface: SET_PROTOCOL of the boot protocol and SET_IDLE (HID 1.11 §7.2); GET_DEVICE_ID (printer
--- class 1.1 §4.2.1)
+-- GET_DEVICE_ID, of at most 1,023 bytes, with the interface in the high byte of wIndex (printer class 1.1 §4.2.1)
+abbrev pub id_request : ℕ → Setup
+id_request i = to_interface 0xA1 0x00 0 (256 * i) 0x03FF
+
+-- what a driver asks of its interface: SET_PROTOCOL of the boot protocol and SET_IDLE (HID 1.11 §7.2); a printer's id
 abbrev pub requests_of : Driver → ℕ → List Setup
 requests_of Keyboard i = to_interface 0x21 0x0B 0 i 0 ∷ to_interface 0x21 0x0A 0 i 0 ∷ []
 requests_of Acm i = []
-requests_of Printer i = to_interface 0xA1 0x00 0 (256 * i) 0x03FF ∷ []
+requests_of Printer i = id_request i ∷ []
 
 -- a control transfer without data that go out
 abbrev pub asking : Setup → Call
@@ -56,22 +59,37 @@ ask_each script calls (setup ∷ setups) =
     then record { calls = calls ++ asking setup ∷ []; answered = false }
     else ask_each script (calls ++ asking setup ∷ []) setups
 
--- how far the probes of a device are: the board and the pool, what the device heard, and how each probe went
+-- the bytes that a reply brings
+abbrev pub bytes_in : Reply → List ℕ
+bytes_in (Packet bytes) = bytes
+bytes_in _ = []
+
+abbrev pub id_by : Driver → DeviceScript → List Call → ℕ → List ℕ
+id_by Printer script calls i = bytes_in (reply_to script calls (asking (id_request i)))
+id_by driver script calls i = []
+
+-- the id that a device tells the driver of this binding behind these calls: the reply to GET_DEVICE_ID (printer class 1.1 §4.2.1)
+abbrev pub id_told : DeviceScript → List Call → Bound → List ℕ
+id_told script calls b = id_by b.driver script calls b.interface
+
+-- how far the probes of a device are: the board and the pool, what the device heard, how each probe went, and the id that
+-- each binding of the board was told
 pub record Probing : Type 0 where
   pub board : BoardValue
   pub pool : Homes
   pub calls : List Call
   pub probes : List Probe
+  pub ids : List (List ℕ)
 
--- a binding stays where each request was answered, and is cancelled where one was not
-abbrev pub settled : Probing → Bound → Homes → Asked → Probing
-settled p b pool asked =
+-- a binding stays where each request was answered, with the id that it was told, and is cancelled where one was not
+abbrev pub settled : Probing → Bound → Homes → Asked → List ℕ → Probing
+settled p b pool asked id =
     if asked.answered
-    then record { board = with_binding p.board b; pool = pool; calls = asked.calls; probes = p.probes ++ probe.Bound ∷ [] }
+    then record { board = with_binding p.board b; pool = pool; calls = asked.calls; probes = p.probes ++ probe.Bound ∷ []; ids = p.ids ++ id ∷ [] }
     else record p { calls = asked.calls; probes = p.probes ++ probe.Cancelled ∷ [] }
 
 abbrev pub probed_by : DeviceScript → Probing → Homes → Result Bound ProbeFault → Probing
-probed_by script p pool (Ok b) = settled p b pool (ask_each script p.calls (requests_of b.driver b.interface))
+probed_by script p pool (Ok b) = settled p b pool (ask_each script p.calls (requests_of b.driver b.interface)) (id_told script p.calls b)
 probed_by script p pool (Err fault) = record p { probes = p.probes ++ probe.Refused fault ∷ [] }
 
 -- the probe of one interface more
@@ -98,3 +116,23 @@ Asks old setup goes new = (script : DeviceScript) (calls : List Call) → Stands
 abbrev pub AsksEach : Scripted → List Setup → Bool → Scripted → Type 0
 AsksEach old setups answered new = (script : DeviceScript) (calls : List Call) → Stands old script calls
     → ((ask_each script calls setups).answered ≡ answered) × Stands new script (ask_each script calls setups).calls
+
+-- how many bytes came, where the probe goes on
+abbrev pub count_moved : CtrlReply → Option ℕ
+count_moved (heard.Moved n) = Some n
+count_moved heard.Stall = Some 0
+count_moved _ = None
+
+-- a reply of no more bytes than this
+abbrev pub IsWithin : ℕ → Reply → Type 0
+IsWithin most (Packet bytes) = length bytes ≤ most
+IsWithin most _ = Unit {0}
+
+-- whatever a device heard, the id that it tells has room
+abbrev pub FitsRoom : DeviceScript → Type 0
+FitsRoom script = (calls : List Call) (i : ℕ) → IsWithin 1024 (reply_to script calls (asking (id_request i)))
+
+-- the first bytes of the room, where the probe goes on, are the id that the driver is told
+abbrev pub TellsId : Scripted → Driver → ℕ → Option ℕ → List ℕ → Type 0
+TellsId old driver i count room = (script : DeviceScript) (calls : List Call) → Stands old script calls → FitsRoom script
+    → IfSome count (λ n. take n room ≡ id_by driver script calls i)

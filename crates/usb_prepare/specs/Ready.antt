@@ -9,7 +9,7 @@ use Rattle.usb_scene.specs.WellFormed.{is_raw}
 use Rattle.usb_prepare.specs.declared.prepared.Prepared.{Prepared}
 use Rattle.usb_prepare.specs.Layout.{layout_of}
 use Rattle.usb_prepare.specs.Bindings.{HaveHeard}
-use Rattle.usb_prepare.specs.Prepared.{bindings_of, probes_of, found_of}
+use Rattle.usb_prepare.specs.Prepared.{ids_of, probes_of, found_of}
 
 -- a device before the run: a raw one heard no call; an enumeration and a probe ask 00 alone, and set no endpoint's halt
 pub record IsReady (device : SceneDevice) (scripted : Scripted) : Type 0 where
@@ -29,5 +29,6 @@ pub record IsPrepared (s : Scene) (p : Prepared) : Type 0 where
   pub devices : AreReady s.devices p.devices.items
   pub heard : HaveHeard s.devices (probes_of s).heard p.devices.items
   pub found : p.found ≡ found_of s
-  pub bound : p.board.bindings ≡ bindings_of s
+  pub board : p.board ≡ (probes_of s).board
+  pub ids : p.ids ≡ ids_of s
   pub layout : p.layout ≡ layout_of s

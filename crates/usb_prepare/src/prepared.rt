@@ -4,7 +4,7 @@ use crate::found::Found;
 use usb_bind::Board;
 use usb_device::Scripted;
 use usb_machine::Layout;
-use usb_types::List;
+use usb_types::{Buf, List};
 
 /// A scene whose devices are enumerated and whose interfaces are bound.
 #[derive(Drop)]
@@ -15,6 +15,9 @@ pub struct Prepared<'a> {
     pub found: List<Found>,
     /// Which driver has which interface.
     pub board: Board,
+    /// Of each binding, by its place in the board, what its device told when it was probed: the id of a printer. The other
+    /// drivers ask for none.
+    pub ids: List<Buf>,
     /// The endpoints, and the home of each URB.
     pub layout: Layout,
 }

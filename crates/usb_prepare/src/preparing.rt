@@ -53,7 +53,11 @@ fn open(alloc: Global, scene: &Scene, attached: List<Option<Attached>>) -> Resul
     take_own(&mut pool, scene, &ends);
     let board = Board::new(alloc, attached, ends.firsts)?;
     Ok(Opened {
-        bindings: Bindings { board, pool },
+        bindings: Bindings {
+            board,
+            pool,
+            ids: List::of(Vec::new(alloc)),
+        },
         shapes: ends.shapes,
     })
 }
@@ -69,6 +73,8 @@ fn probe_all(
     requires good { IsWellFormed scene.now }
     requires board { bindings.old.board ≡ board_of scene.now }
     requires pool { bindings.old.pool ≡ pool_of scene.now }
+    requires ids { bindings.old.ids ≡ [] }
+    requires room { 1024 ≤ length room.old }
     requires heard { HaveHeard scene.now.devices (enumerations_from 0 scene.now.devices) devices.old }
     ensures { IfOk result (AreProbed scene.now (length scene.now.devices) bindings.new devices.new) }
 {
@@ -126,6 +132,7 @@ pub fn prepare(alloc: Global, scene: &Scene) -> Result<Prepared<'_>, Memory>
         devices,
         found,
         board: bindings.board,
+        ids: bindings.ids,
         layout,
     })
 }

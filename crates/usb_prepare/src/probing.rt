@@ -1,18 +1,18 @@
 //! The probes of the interfaces.
-ghost use Rattle.std.specs.Prelude.{◌≡◌, [], List, length, IfOk};
+ghost use Rattle.std.specs.Prelude.{◌≡◌, ◌≤◌, [], ℕ, List, length, is_some, IfOk, IfSome, OnOk};
 ghost use Rattle.usb_xfer.specs.declared.script.DeviceScript.{DeviceScript};
 ghost use Rattle.usb_device.specs.Device.{Call, Stands};
 ghost use Rattle.usb_bind.specs.Board.{attached_at};
 ghost use Rattle.usb_prepare.specs.Prepared.{probed_device};
 ghost use Rattle.usb_prepare.specs.Bindings.{numbers_of, HasProbed, IsProbing};
-ghost use Rattle.usb_prepare.specs.Probing.{to_interface, requests_of, goes_on, Asks, AsksEach};
+ghost use Rattle.usb_prepare.specs.Probing.{to_interface, id_request, requests_of, goes_on, count_moved, Asks, AsksEach, FitsRoom, TellsId};
 
 use crate::found::Probe;
 use std::alloc::Global;
 use usb_bind::{Board, Driver, UrbPool, interfaces, profile};
 use usb_ctrl::Setup;
 use usb_device::Scripted;
-use usb_types::{List, Memory};
+use usb_types::{Buf, List, Memory};
 use usb_xfer::{CtrlReply, Device};
 
 // The most bytes of a printer's id that are asked for.
@@ -45,56 +45,116 @@ fn ask(device: &mut Scripted<'_>, setup: Setup, room: &mut [u8]) -> bool
     goes_on(device.control(setup, &[], room))
 }
 
-// Asks the requests of a driver's probe, up to the first that ends it. Answers whether none did.
-pub fn ask_each(device: &mut Scripted<'_>, driver: Driver, interface: u8, room: &mut [u8]) -> bool
+// Asks the requests of a keyboard's probe, SET_PROTOCOL and SET_IDLE (HID 1.11 §7.2), up to the first that ends it. Answers
+// whether none did.
+fn ask_keyboard(device: &mut Scripted<'_>, interface: u8, room: &mut [u8]) -> bool
     ensures size { length room.new ≡ length room.old }
-    ensures asked { AsksEach device.old (requests_of driver interface) result device.new }
+    ensures asked { AsksEach device.old (requests_of Driver.Keyboard interface) result device.new }
 {
     let number = interface as u16;
-    match driver {
-        // SET_PROTOCOL and SET_IDLE (HID 1.11 §7.2).
-        Driver::Keyboard => {
-            ask(device, request(0x21, 0x0B, number, 0), room)
-                && ask(device, request(0x21, 0x0A, number, 0), room)
-        }
-        Driver::Acm => true,
-        // GET_DEVICE_ID (printer class 1.1 §4.2.1), with the interface in the high byte.
-        Driver::Printer => ask(device, request(0xA1, 0x00, 256 * number, ID_ROOM), room),
+    ask(device, request(0x21, 0x0B, number, 0), room)
+        && ask(device, request(0x21, 0x0A, number, 0), room)
+}
+
+// How many bytes came, where the probe goes on.
+fn count_moved(reply: CtrlReply) -> Option<u32>
+    ensures { result ≡ count_moved reply }
+{
+    match reply {
+        CtrlReply::Moved(count) => Some(count),
+        CtrlReply::Stall => Some(0),
+        CtrlReply::Nak | CtrlReply::Error => None,
     }
 }
 
-/// The bindings of a host, and its URBs.
+// Asks for the id of a printer, GET_DEVICE_ID (printer class 1.1 §4.2.1), with the interface in the high byte. Answers how
+// many bytes of it stand in the room, where the probe goes on.
+fn ask_id(device: &mut Scripted<'_>, interface: u8, room: &mut [u8]) -> Option<usize>
+    requires room { 1024 ≤ length room.old }
+    ensures size { length room.new ≡ length room.old }
+    ensures within { IfSome result (λ count. count ≤ length room.new) }
+    ensures asked { Asks device.old (id_request interface) (is_some result) device.new }
+    ensures told { TellsId device.old Driver.Printer interface result room.new }
+{
+    let number = interface as u16;
+    let reply = device.control(request(0xA1, 0x00, 256 * number, ID_ROOM), &[], room);
+    let count = count_moved(reply)?;
+    Some((count as usize).min(room.len()))
+}
+
+// Asks the requests of a driver's probe, up to the first that ends it. Answers how many bytes of an id stand in the room,
+// where none did.
+fn ask_each(
+    device: &mut Scripted<'_>,
+    driver: Driver,
+    interface: u8,
+    room: &mut [u8],
+) -> Option<usize>
+    requires room { 1024 ≤ length room.old }
+    ensures size { length room.new ≡ length room.old }
+    ensures within { IfSome result (λ count. count ≤ length room.new) }
+    ensures asked { AsksEach device.old (requests_of driver interface) (is_some result) device.new }
+    ensures told { TellsId device.old driver interface result room.new }
+{
+    match driver {
+        Driver::Keyboard => {
+            if ask_keyboard(device, interface, room) {
+                Some(0)
+            } else {
+                None
+            }
+        }
+        Driver::Acm => Some(0),
+        Driver::Printer => ask_id(device, interface, room),
+    }
+}
+
+// A copy of bytes.
+fn copy(alloc: Global, bytes: &[u8]) -> Result<Buf, Memory>
+    ensures { IfOk result (λ copy. copy ≡ bytes.now) }
+{
+    let mut copy = Buf::of(Vec::new(alloc));
+    copy.append(bytes)?;
+    Ok(copy)
+}
+
+/// The bindings of a host, with the id that each was told, and its URBs.
 #[derive(Drop)]
 pub struct Bindings {
     pub board: Board,
     pub pool: UrbPool,
+    pub ids: List<Buf>,
 }
 
 impl Bindings {
     // Probes an interface of a device.
     fn probe(
         &mut self,
+        alloc: Global,
         device: &mut Scripted<'_>,
         number: u32,
         interface: u8,
         room: &mut [u8],
-    ) -> Probe
+    ) -> Result<Probe, Memory>
+        requires room { 1024 ≤ length room.old }
         ensures size { length room.new ≡ length room.old }
-        ensures probed { HasProbed self.old device.old number interface result self.new device.new }
+        ensures probed { IfOk result (λ went. HasProbed self.old device.old number interface went self.new device.new) }
     {
         match self
             .board
             .probe(&mut self.pool, &profile(), number, interface)
         {
-            Ok(bound) => {
-                if ask_each(device, bound.driver, interface, room) {
-                    Probe::Bound
-                } else {
-                    self.board.cancel(&mut self.pool, bound);
-                    Probe::Cancelled
+            Ok(bound) => match ask_each(device, bound.driver, interface, room) {
+                Some(count) => {
+                    self.ids.push(copy(alloc, &room[..count])?)?;
+                    Ok(Probe::Bound)
                 }
-            }
-            Err(fault) => Probe::Refused(fault),
+                None => {
+                    self.board.cancel(&mut self.pool, bound);
+                    Ok(Probe::Cancelled)
+                }
+            },
+            Err(fault) => Ok(Probe::Refused(fault)),
         }
     }
 
@@ -116,13 +176,14 @@ impl Bindings {
         number: u32,
         room: &mut [u8],
     ) -> Result<List<Probe>, Memory>
+        requires room { 1024 ≤ length room.old }
         ensures size { length room.new ≡ length room.old }
-        ensures probed { IfOk result (λ probes. (script : DeviceScript) (calls : List Call) → Stands device.old script calls
-            → IsProbing (probed_device number script (attached_at self.old.board number) record { board = self.old.board; pool = self.old.pool; calls = calls; probes = [] }) script self.new device.new probes) }
+        ensures probed { IfOk result (λ probes. (script : DeviceScript) (calls : List Call) → Stands device.old script calls → FitsRoom script
+            → IsProbing (probed_device number script (attached_at self.old.board number) record { board = self.old.board; pool = self.old.pool; calls = calls; probes = []; ids = self.old.ids }) script self.new device.new probes) }
     {
         let mut probes = List::of(Vec::new(alloc));
         for interface in self.numbers(alloc, number)?.items() {
-            probes.push(self.probe(device, number, *interface, room))?;
+            probes.push(self.probe(alloc, device, number, *interface, room)?)?;
         }
         Ok(probes)
     }

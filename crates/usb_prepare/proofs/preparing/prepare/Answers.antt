@@ -5,7 +5,7 @@ use Rattle.usb_prepare.specs.Bindings.{HaveHeard}
 use Rattle.usb_prepare.specs.Prepared.{probes_of}
 use Rattle.usb_prepare.specs.Ready.{AreReady}
 use Rattle.usb_prepare.specs.Layout.{homes_of}
-use Rattle.usb_prepare.proofs.Whole.{devices_ready, all_heard, board_so, pool_so, probes_so}
+use Rattle.usb_prepare.proofs.Whole.{devices_ready, all_heard, board_so, pool_so, ids_so, probes_so}
 use Rattle.usb_prepare.proofs.preparing.prepare.Goals as goal
 
 pub find_all-requires-clause-board : goal.find_all-requires-clause-board
@@ -28,6 +28,7 @@ returns c =
       devices = subst (AreReady s.devices) (sym same) (devices_ready s c.requires c.probe_all.new.bindings c.probe_all.new.devices c.in_ok-probes.probes are);
       heard = subst (HaveHeard s.devices (probes_of s).heard) (sym same) (all_heard s c.requires c.probe_all.new.bindings c.probe_all.new.devices c.in_ok-probes.probes are);
       found = c.in_ok-found.ensures;
-      bound = ap (λ b. b.bindings) (board_so s c.requires c.probe_all.new.bindings c.probe_all.new.devices c.in_ok-probes.probes c.in_ok-probes.ensures);
+      board = board_so s c.requires c.probe_all.new.bindings c.probe_all.new.devices c.in_ok-probes.probes c.in_ok-probes.ensures;
+      ids = ids_so s c.requires c.probe_all.new.bindings c.probe_all.new.devices c.in_ok-probes.probes c.in_ok-probes.ensures;
       layout = (λ i. record { homes = homes i; shapes = shapes i });
     }

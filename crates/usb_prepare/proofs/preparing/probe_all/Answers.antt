@@ -6,7 +6,7 @@ use Rattle.usb_prepare.proofs.preparing.probe_all.Goals as goal
 
 pub loop-i-init : goal.loop-i-init
 loop-i-init c = subst (AreProbed c.args.scene.now 0 c.args.bindings.now c.args.devices.now) (sym (c.of-probes.ensures ∙ c.new.ensures.items))
-    (probed_start c.args.scene.now c.requires.good c.args.bindings.now c.args.devices.now c.requires.board c.requires.pool c.requires.heard)
+    (probed_start c.args.scene.now c.requires.good c.args.bindings.now c.args.devices.now c.requires.board c.requires.pool c.requires.ids c.requires.heard)
 
 pub loop-i-preserved : goal.loop-i-preserved
 loop-i-preserved c =
