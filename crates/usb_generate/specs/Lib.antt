@@ -1,0 +1,4 @@
+pub mod Draws
+pub mod Generator
+pub mod Readable
+pub mod Summary

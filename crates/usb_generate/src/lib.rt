@@ -1,0 +1,9 @@
+//! Scenes that a number makes: devices, URBs and calls, drawn by it.
+#![tactic(auto)]
+
+mod draws;
+mod generator;
+#[cfg(test)]
+mod tests;
+
+pub use generator::generate;
