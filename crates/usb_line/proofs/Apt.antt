@@ -2,7 +2,6 @@
 use Rattle.std.proofs.Common.{ℕ, ◌≡◌, ◌<◌, Bool, true, false, cond, eqb, Option, Some, None, List, length, refl, sym, ap, ◌∙◌, subst, true≢false}
 use Rattle.usb_types.specs.declared.errno.Errno.{Errno}
 use Rattle.usb_types.specs.declared.errno.Errno.TheVariants.{EMSGSIZE, EINVAL}
-use Rattle.usb_types.specs.declared.urb.Role.TheVariants.{Ctl}
 use Rattle.usb_machine.specs.declared.layout.EndKind.{EndKind}
 use Rattle.usb_machine.specs.declared.layout.EndKind.TheVariants.{Control, Bulk, Interrupt, Iso}
 use Rattle.usb_machine.specs.declared.layout.Shape.{Shape}
@@ -14,7 +13,7 @@ use Rattle.usb_device.specs.Laws.{sets_halt}
 use Rattle.usb_scene.specs.declared.scene.Scene.{Scene}
 use Rattle.usb_scene.specs.WellFormed.{IsWellFormed}
 use Rattle.usb_prepare.specs.Ends.{shape_at}
-use Rattle.usb_prepare.specs.Layout.{home}
+use Rattle.usb_prepare.specs.Layout.{urb_count, home}
 use Rattle.usb_line.specs.declared.owner.Owner.{Owner}
 use Rattle.usb_line.specs.Prepared.{owner_of}
 use Rattle.usb_line.specs.Between.{IsBare}
@@ -53,14 +52,22 @@ bare_tame shape t packets =
     ap (λ b. sets_halt (question_by (cond b (cond (goes_in (setup_in t.setup).kind) ControlIn ControlOut) (cond (goes_in shape.address) In Out)) shape.max t)) packets
     ∙ packets_tame (goes_in shape.address) shape.max t
 
--- one of a driver may have a transfer without setup packet
-pub bare_apt : (s : Scene) → IsWellFormed s → (u : ℕ) (o : Owner) → owner_of s u ≡ Some o → (t : Transfer) → t.setup ≡ None → shape_fault (shape_at s (home s u)) t ≡ None → IsApt s u t
-bare_apt s good u o is t bare none =
+-- an URB may have a transfer without setup packet that its home takes
+pub packets_apt : (s : Scene) (u : ℕ) → u < urb_count s → (t : Transfer) → t.setup ≡ None → shape_fault (shape_at s (home s u)) t ≡ None → IsApt s u t
+packets_apt s u near t bare none =
     let shape = shape_at s (home s u) in
     let packets = not_control shape t bare none in
     record {
-      near = owner_near s good u o is;
+      near = near;
       asked = ap (λ b. cond b 0 shape.address) packets;
       tame = λ off. bare_tame shape t packets;
-      bare = subst (λ o. IsBare o t.setup) (sym is) (λ off. bare);
+      bare = without (owner_of s u);
     }
+  where
+    without : (o : Option Owner) → IsBare o t.setup
+    without None = tt
+    without (Some o) = λ off. bare
+
+-- and so may one of a driver
+pub bare_apt : (s : Scene) → IsWellFormed s → (u : ℕ) (o : Owner) → owner_of s u ≡ Some o → (t : Transfer) → t.setup ≡ None → shape_fault (shape_at s (home s u)) t ≡ None → IsApt s u t
+bare_apt s good u o is t bare none = packets_apt s u (owner_near s good u o is) t bare none

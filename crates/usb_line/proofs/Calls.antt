@@ -30,8 +30,6 @@ use Rattle.usb_line.proofs.Held.{rejects_at, down_at}
 use Rattle.usb_line.proofs.Deeds.{raises, withdraws, is_hubs, named, deed_hubs, sum_raised, sum_withdrawn, withdraws_named, withdraws_own, none_or_named}
 use Rattle.usb_line.proofs.Effects.{rejects_effect, down_effect}
 use Rattle.usb_line.proofs.Entries.{AreOf, part_own, part_other}
-use Rattle.usb_line.proofs.Calm.{calm_empty}
-use Rattle.usb_line.proofs.Dues.{due-none}
 use Rattle.usb_line.proofs.Serving.{Serves}
 use Rattle.usb_line.proofs.Turns.{gives_back_serve, gives_back_turned, idle_serves, idle_turned}
 use Rattle.usb_line.proofs.Waits.{woken_serves, woken_turned, wait_turned}
@@ -244,7 +242,7 @@ module _ (s : Scene) (good : IsWellFormed s) (f : Progress) (i : ℕ) (c : Call)
   makes_go _ e (served m _ is gave idle) =
       let begun = made_none s f p old.serves in
       let wake = made_turned s f f (woken f) p [] (not_server s i) begun (woken_serves s f old.serves) (woken_turned f) in
-      let gone = made_turned s f (woken f) m p [] (not_server s i) wake (gives_back_serve s (woken f) m gave wake.serves) (gives_back_turned s (woken f) m gave) in
+      let gone = made_turned s f (woken f) m p [] (not_server s i) wake (gives_back_serve s good (woken f) m gave wake.serves) (gives_back_turned s (woken f) m gave) in
       let last = made_turned s f m e p [] (not_server s i) gone (idle_serves s m e idle gone.serves) (idle_turned s m e idle) in
       counted (doing f i c told.Nothing [] []) e refl refl refl record {
         made = subst (λ dd. IsMadeBy s f p (deed_entries s p c dd told.Nothing [] [] f.down) e) (sym is) last;
@@ -256,7 +254,7 @@ module _ (s : Scene) (good : IsWellFormed s) (f : Progress) (i : ℕ) (c : Call)
       let d : Doing = doing f i c (told.Buffer rest) (mark ∷ []) [] in
       let k : Progress = adds m (claim_entries p u rest ++ unblock_entries p u) in
       counted d k refl refl refl record {
-        made = subst (λ dd. IsMadeBy s f p (deed_entries s p c dd (told.Buffer rest) (mark ∷ []) [] f.down) k) (sym is) (kill_made s p u (is_pass s i near) (not_server s i) f m old.serves waits);
+        made = subst (λ dd. IsMadeBy s f p (deed_entries s p c dd (told.Buffer rest) (mark ∷ []) [] f.down) k) (sym is) (kill_made s p u (is_pass s i near) good (not_server s i) f m old.serves waits);
         answered = subst (λ dd. IsAnswered s d dd (told.Buffer rest)) (sym is) refl;
       }
   makes_go _ _ (poisoned u m is waits) =
@@ -265,10 +263,10 @@ module _ (s : Scene) (good : IsWellFormed s) (f : Progress) (i : ℕ) (c : Call)
       let d : Doing = doing f i c (told.Buffer rest) (mark ∷ []) [] in
       let k : Progress = adds m (claim_entries p u rest) in
       counted d k refl refl refl record {
-        made = subst (λ dd. IsMadeBy s f p (deed_entries s p c dd (told.Buffer rest) (mark ∷ []) [] f.down) k) (sym is) (poison_made s p u (is_pass s i near) (not_server s i) f m old.serves waits);
+        made = subst (λ dd. IsMadeBy s f p (deed_entries s p c dd (told.Buffer rest) (mark ∷ []) [] f.down) k) (sym is) (poison_made s p u (is_pass s i near) good (not_server s i) f m old.serves waits);
         answered = subst (λ dd. IsAnswered s d dd (told.Buffer rest)) (sym is) refl;
       }
-  makes_go _ m (shut_down rests _ is up claims) = counted _ m refl refl refl (down_called s f i c can_call is up rests m claims)
+  makes_go _ m (shut_down rests _ is up claims) = counted _ m refl refl refl (down_called s good f i c can_call is up rests m claims)
 
 claims_doings : (s : Scene) (p : ℕ) (f : Progress) (us : List ℕ) (rests : List (Option ℕ)) (m : Progress) → ClaimsEach s p f us rests m → m.doings ≡ f.doings
 claims_doings s p f _ _ _ none = refl

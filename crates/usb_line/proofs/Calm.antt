@@ -1,5 +1,5 @@
 -- Between the blocks of a run no handler runs, no URB is marked as finished, and no Link is owed.
-use Rattle.std.proofs.Common.{ℕ, zero, suc, ◌≡◌, ◌+◌, Bool, true, false, ◌&&◌, cond, eqb, fold, List, [], ◌∷◌, ◌++◌, refl, sym, ap, ◌∙◌, subst, arith, append_assoc, append-nil}
+use Rattle.std.proofs.Common.{ℕ, zero, suc, ◌≡◌, ◌≢◌, ◌⊎◌, inl, inr, ◌+◌, Bool, true, false, ◌&&◌, cond, eqb, fold, List, [], ◌∷◌, ◌++◌, refl, sym, ap, ◌∙◌, subst, arith, append_assoc, append-nil}
 use mathlib.Core.Logic.{dite}
 use native.Mathlib.Decide.{ℕ_discrete}
 use Rattle.std.proofs.lemmas.List.Sums.{fold-append}
@@ -26,13 +26,14 @@ use Rattle.usb_machine.proofs.Places.{placed}
 use Rattle.usb_scene.specs.declared.scene.Scene.{Scene}
 use Rattle.usb_line.specs.declared.made.Outcome.{Outcome}
 use Rattle.usb_line.specs.declared.made.Outcome.TheVariants as outcome
-use Rattle.usb_line.specs.Prepared.{machine_of}
-use Rattle.usb_line.specs.Run.{Giveback, moved_in, resent, handled_by, given_entries, giveback_entries}
+use Rattle.usb_line.specs.Prepared.{machine_of, Asking, asking_of}
+use Rattle.usb_line.specs.Back.{CanPoseAny}
+use Rattle.usb_line.specs.Run.{Giveback, moved_in, resent, rest_entry, asked_entries, handled_by, given_entries, giveback_entries}
 use Rattle.usb_line.specs.Line.{takes, takes_below}
 pub use Rattle.usb_line.specs.Between.{is_finished, IsAtRest, IsCalm, AllLinked}
-use Rattle.usb_line.proofs.Entries.{AreOf, grows, stays}
+use Rattle.usb_line.proofs.Entries.{AreOf, grows, stays, other_state}
 use Rattle.usb_line.proofs.Takes.{below_state, below_pass}
-use Rattle.usb_line.proofs.Givebacks.{handled_state, giveback_state, giveback_other, giveback_pass}
+use Rattle.usb_line.proofs.Givebacks.{handled_state, IsApart, apart_any, posed_by, given_about, asked_each, handled, whole, whole_asked, resting, giveback_state, giveback_other, giveback_pass}
 use Rattle.usb_line.proofs.Submits.{submit_pass, submit_state, submit_other, submit_owes_none}
 use Rattle.usb_line.proofs.Stills.{IsStill, AreStill, stills_owe}
 
@@ -120,34 +121,72 @@ module _ (s : Scene) (h : List Entry) where
   linked_takes n = linked_by SERVER h (takes_below s h n) (below_pass s h n) (below_owe s h n)
 
   module _ (r : Giveback) where
-    pub calm_giveback : IsCalm h → IsCalm (h ++ giveback_entries s r)
-    calm_giveback calm u = dite (ℕ_discrete u r.urb)
-        (λ is. subst (λ u. IsAtRest (state_of (h ++ giveback_entries s r) u)) (sym is) (subst IsAtRest (sym (giveback_state s h r)) (go r.outcome)))
-        (λ off. subst IsAtRest (sym (giveback_other s h r u off)) (calm u))
+    pub calm_giveback : CanPoseAny s r.urb (asking_of s r.urb) → IsCalm h → IsCalm (h ++ giveback_entries s r)
+    calm_giveback pose calm u = dite (ℕ_discrete u r.urb)
+        (λ is. subst (λ u. IsAtRest (state_of (h ++ giveback_entries s r) u)) (sym is) (subst IsAtRest (sym (giveback_state s h r (apart_any s r.urb (asking_of s r.urb) pose))) (go r.outcome)))
+        (λ off. calm_else u off r.outcome refl)
       where
         go : (o : Outcome) → IsAtRest (handled_state o (moved_in s r).number (record (state_of h r.urb) { queued = false; mark = Clear }))
         go outcome.Rest = record { handlers = (calm r.urb).handlers; mark = refl }
         go (outcome.Again Zero) = record { handlers = (calm r.urb).handlers; mark = refl }
         go (outcome.Again (Fault e)) = record { handlers = (calm r.urb).handlers; mark = refl }
+        go (outcome.Asked c) = record { handlers = (calm r.urb).handlers; mark = refl }
+
+        calm_else : (u : ℕ) → u ≢ r.urb → (o : Outcome) → r.outcome ≡ o → IsAtRest (state_of (h ++ giveback_entries s r) u)
+        calm_else u off outcome.Rest did = subst IsAtRest (sym (giveback_other s h r u off (subst (λ o. IsApart u (posed_by (asking_of s r.urb) o)) (sym did) tt))) (calm u)
+        calm_else u off (outcome.Again c) did = subst IsAtRest (sym (giveback_other s h r u off (subst (λ o. IsApart u (posed_by (asking_of s r.urb) o)) (sym did) tt))) (calm u)
+        calm_else u off (outcome.Asked c) did = subst IsAtRest (sym (ap (λ (l : List Entry). state_of l u) (whole_asked s h r c did)
+            ∙ other_state r.urb (resting s h r ++ asked_entries s (asking_of s r.urb) c) (plain_entry SERVER (End record { 0 = r.urb }) ∷ []) (tt, refl, tt) u off))
+            (asked_each s (λ xs. IsAtRest (state_of (resting s h r ++ xs) u)) (asking_of s r.urb) c (subst (λ (l : List Entry). IsAtRest (state_of l u)) (sym (append-nil (resting s h r))) before)
+            (λ a is none. asked a c (dite (ℕ_discrete u a.urb) inl inr)))
+          where
+            before : IsAtRest (state_of (resting s h r) u)
+            before = subst IsAtRest (sym (other_state r.urb (h ++ given_entries r.urb r.status r.finished) (rest_entry r.urb (moved_in s r) ∷ []) (tt, refl, tt) u off
+                ∙ other_state r.urb h (given_entries r.urb r.status r.finished) (given_about r.urb r.status r.finished) u off)) (calm u)
+
+            queued : (b : Bool) (t : UrbState) → IsAtRest t → IsAtRest (cond b (record t { queued = true; mark = Clear }) t)
+            queued true t is = record { handlers = is.handlers; mark = refl }
+            queued false t is = is
+
+            asked : (a : Asking) (c : Code) → (u ≡ a.urb) ⊎ (u ≢ a.urb) → IsAtRest (state_of (resting s h r ++ submit_entries SERVER a.urb a.transfer c) u)
+            asked a c (inl same) = subst (λ v. IsAtRest (state_of (resting s h r ++ submit_entries SERVER a.urb a.transfer c) v)) (sym same)
+                (subst IsAtRest (sym (submit_state SERVER a.urb a.transfer (resting s h r) c)) (queued (is_zero c) (state_of (resting s h r) a.urb) (subst (λ v. IsAtRest (state_of (resting s h r) v)) same before)))
+            asked a c (inr apart) = subst IsAtRest (sym (submit_other SERVER a.urb a.transfer (resting s h r) c u apart)) before
+
+    -- no Link is owed
+    none_owed : (m xs : List Entry) (u : ℕ) → owes m u ≡ false → fold (λ b x. owes_after u b x.event x.answer) false xs ≡ false → owes (m ++ xs) u ≡ false
+    none_owed m xs u none is = fold-append (λ b x. owes_after u b x.event x.answer) false m xs ∙ (ap (λ b. fold (λ b x. owes_after u b x.event x.answer) b xs) none ∙ is)
+
+    given_owe : (m : List Entry) (u : ℕ) → owes m u ≡ false → owes (m ++ given_entries r.urb r.status r.finished) u ≡ false
+    given_owe m u none = none_owed m (given_entries r.urb r.status r.finished) u none (go r.finished)
+      where
+        go : (b : Bool) → fold (λ b x. owes_after u b x.event x.answer) false (given_entries r.urb r.status b) ≡ false
+        go true = refl
+        go false = refl
+
+    handled_owe : (m : List Entry) (u : ℕ) → owes m u ≡ false → (o : Outcome) → owes (m ++ handled_by s r.urb (moved_in s r) (resent s r) (asking_of s r.urb) o) u ≡ false
+    handled_owe m u none outcome.Rest = none_owed m (rest_entry r.urb (moved_in s r) ∷ []) u none refl
+    handled_owe m u none (outcome.Again Zero) = none_owed m (submit_entries SERVER r.urb (resent s r) Zero ++ []) u none (go (eqb r.urb u) refl)
+      where
+        go : (w : Bool) → eqb r.urb u ≡ w → fold (λ b x. owes_after u b x.event x.answer) false (submit_entries SERVER r.urb (resent s r) Zero ++ []) ≡ false
+        go true is = ap (λ b. cond b false (cond (b && true) true false)) is
+        go false is = ap (λ b. cond b false (cond (b && true) true false)) is
+    handled_owe m u none (outcome.Again (Fault e)) = none_owed m (handled_by s r.urb (moved_in s r) (resent s r) (asking_of s r.urb) (outcome.Again (Fault e))) u none (go (eqb r.urb u) refl)
+      where
+        go : (w : Bool) → eqb r.urb u ≡ w → fold (λ b x. owes_after u b x.event x.answer) false (handled_by s r.urb (moved_in s r) (resent s r) (asking_of s r.urb) (outcome.Again (Fault e))) ≡ false
+        go true is = ap (λ b. cond (b && false) true false) is
+        go false is = ap (λ b. cond (b && false) true false) is
+    handled_owe m u none (outcome.Asked c) = ap (λ (l : List Entry). owes l u) (sym (append_assoc m (rest_entry r.urb (moved_in s r) ∷ []) (asked_entries s (asking_of s r.urb) c)))
+        ∙ asked_each s (λ xs. owes ((m ++ rest_entry r.urb (moved_in s r) ∷ []) ++ xs) u ≡ false) (asking_of s r.urb) c
+        (ap (λ (l : List Entry). owes l u) (append-nil (m ++ rest_entry r.urb (moved_in s r) ∷ [])) ∙ rested)
+        (λ a is no_. submit_owes_none SERVER a.urb a.transfer (m ++ rest_entry r.urb (moved_in s r) ∷ []) u c rested)
+      where
+        rested : owes (m ++ rest_entry r.urb (moved_in s r) ∷ []) u ≡ false
+        rested = none_owed m (rest_entry r.urb (moved_in s r) ∷ []) u none refl
 
     giveback_owe : (m : List Entry) (u : ℕ) → owes m u ≡ false → owes (m ++ giveback_entries s r) u ≡ false
-    giveback_owe m u none = fold-append (λ b x. owes_after u b x.event x.answer) false m (giveback_entries s r)
-        ∙ (ap (λ b. fold (λ b x. owes_after u b x.event x.answer) b (giveback_entries s r)) none ∙ go r.finished r.outcome (eqb r.urb u) refl)
-      where
-        go : (b : Bool) (o : Outcome) (w : Bool) → eqb r.urb u ≡ w → fold (λ b x. owes_after u b x.event x.answer) false
-            (given_entries r.urb r.status b ++ (handled_by r.urb (moved_in s r) (resent s r) o ++ plain_entry SERVER (End record { 0 = r.urb }) ∷ [])) ≡ false
-        go true outcome.Rest true is = refl
-        go true outcome.Rest false is = refl
-        go false outcome.Rest true is = refl
-        go false outcome.Rest false is = refl
-        go true (outcome.Again Zero) true is = ap (λ b. cond b false (cond (b && true) true false)) is
-        go true (outcome.Again Zero) false is = ap (λ b. cond b false (cond (b && true) true false)) is
-        go false (outcome.Again Zero) true is = ap (λ b. cond b false (cond (b && true) true false)) is
-        go false (outcome.Again Zero) false is = ap (λ b. cond b false (cond (b && true) true false)) is
-        go true (outcome.Again (Fault e)) true is = ap (λ b. cond (b && false) true false) is
-        go true (outcome.Again (Fault e)) false is = ap (λ b. cond (b && false) true false) is
-        go false (outcome.Again (Fault e)) true is = ap (λ b. cond (b && false) true false) is
-        go false (outcome.Again (Fault e)) false is = ap (λ b. cond (b && false) true false) is
+    giveback_owe m u none = ap (λ (l : List Entry). owes l u) (whole s m r)
+        ∙ none_owed (handled s m r) (plain_entry SERVER (End record { 0 = r.urb }) ∷ []) u (handled_owe (m ++ given_entries r.urb r.status r.finished) u (given_owe m u none) r.outcome) refl
 
     pub linked_giveback : AllLinked h → AllLinked (h ++ giveback_entries s r)
     linked_giveback = linked_by SERVER h (giveback_entries s r) (giveback_pass s h r) giveback_owe

@@ -1,5 +1,5 @@
 -- The close: main kills each URB and then sees each quiet, and nothing is left.
-use Rattle.std.proofs.Common.{ℕ, ◌≡◌, ◌+◌, ◌<◌, Bool, true, false, cond, eqb, Option, List, [], ◌∷◌, ◌++◌, length, refl, sym, ap, ◌∙◌, subst, arith, append_assoc, append-nil, length-append, ne_eqb, true≢false}
+use Rattle.std.proofs.Common.{ℕ, zero, suc, ◌≡◌, ◌+◌, ◌<◌, Bool, true, false, cond, eqb, Option, Some, None, List, [], ◌∷◌, ◌++◌, length, refl, sym, ap, ◌∙◌, subst, arith, append_assoc, append-nil, length-append, ne_eqb, true≢false}
 use Rattle.std.specs.List.{flat_map}
 use mathlib.Core.Logic.{dite}
 use native.Mathlib.Decide.{ℕ_discrete}
@@ -18,16 +18,21 @@ use Rattle.usb_machine.specs.Legal.{times}
 use Rattle.usb_machine.specs.Calls.{plain_entry, mark_entry, claim_entries, unblock_entries, kill_entries}
 use Rattle.usb_machine.proofs.Steps.{state_of-snoc}
 use Rattle.usb_machine.proofs.Rooms.{pending_is_queued}
+use Rattle.usb_machine.specs.declared.transfer.Transfer.{Transfer}
+use Rattle.usb_xfer.specs.Replies.{Reply}
 use Rattle.usb_scene.specs.declared.scene.Scene.{Scene}
+use Rattle.usb_scene.specs.WellFormed.{IsWellFormed}
+use Rattle.usb_prepare.specs.Below.{below}
 use Rattle.usb_prepare.specs.Ends.{ends_of}
 use Rattle.usb_prepare.specs.Layout.{home}
-use Rattle.usb_line.specs.Prepared.{machine_of, main_pass}
+use Rattle.usb_line.specs.Prepared.{machine_of, main_pass, Asking}
 use Rattle.usb_line.specs.Run.{Giveback, kills_of, seen_quiet}
 use Rattle.usb_line.specs.Line.{Progress, adds, with_takes, round_of, given_back, replies_had, had_after, killing, Gives, unlinked, ended, woken, StaysLoud, begins, goes_on, WaitsFor, already, turns, Closes, none, one}
 use Rattle.usb_line.proofs.Entries.{AreOf, AllFollow}
 use Rattle.usb_line.proofs.MayFollow.{once, reject_follows, quiet_follows}
 use Rattle.usb_line.proofs.Takes.{below_state}
-use Rattle.usb_line.proofs.Givebacks.{giveback_other}
+use Rattle.usb_line.proofs.Givebacks.{IsApart, posed, giveback_other}
+use Rattle.usb_line.proofs.Before.{posed_before}
 use Rattle.usb_line.proofs.Stills.{IsStill, AreStill}
 use Rattle.usb_line.proofs.Calm.{IsCalm, calm_entry}
 use Rattle.usb_line.proofs.Marked.{times-append, first_at_home, marked_at_home}
@@ -36,6 +41,7 @@ use Rattle.usb_line.proofs.Turns.{passed, gives_serve}
 use Rattle.usb_line.proofs.Waits.{woken_serves, wait_quiet}
 use Rattle.usb_line.proofs.Passes.{main_not_server, main_is_pass}
 use Rattle.usb_line.proofs.Makings.{IsMadeBy, begun, made_none, made_entries, made_on, kill_made}
+use Rattle.usb_line.proofs.Downs.{in_below, all_below}
 
 same_queue : (b : Bool) (s now : UrbState) → now.queued ≡ s.queued → (cond b now s).queued ≡ s.queued
 same_queue true s now e = e
@@ -63,33 +69,47 @@ still_queued h [] v is = ap (λ l. (state_of l v).queued) (append-nil h)
 still_queued h (x ∷ xs) v is = ap (λ l. (state_of l v).queued) (sym (append_assoc h (x ∷ []) xs))
     ∙ (still_queued (h ++ x ∷ []) xs v is.1 ∙ (ap (λ (t : UrbState). t.queued) (state_of-snoc h x v) ∙ same_queue (is_of v x.event) (state_of h v) _ (queue_after x.event x.answer (state_of h v) is.0)))
 
--- an URB that is not queued stays so in turns, since none is given back but one that is
-module _ (s : Scene) (v : ℕ) where
-  abbrev IsOut : Progress → Type 0
-  IsOut f = (state_of f.history v).queued ≡ false
+-- the URBs below n, none of which is queued, stay so in turns: none is given back but one that is queued, and a question is
+-- asked with an URB of a higher number
+module _ (s : Scene) (good : IsWellFormed s) (n : ℕ) where
+  abbrev AreOut : Progress → Type 0
+  AreOut f = (v : ℕ) → v < n → (state_of f.history v).queued ≡ false
 
-  back_out : (f : Progress) (r : Giveback) → (state_of f.history r.urb).queued ≡ true → IsOut f → IsOut (given_back s f r)
-  back_out f r queued out = ap (λ (t : UrbState). t.queued) (giveback_other s f.history r v (λ is. true≢false (sym queued ∙ (ap (λ (w : ℕ). (state_of f.history w).queued) (sym is) ∙ out)))) ∙ out
+  back_out : (f : Progress) (u : ℕ) (status : Code) (finished : Bool) (t : Transfer) (replies : List Reply) → (state_of f.history u).queued ≡ true → AreOut f → AreOut (given_back s f (round_of s f u status finished t replies))
+  back_out f u status finished t replies queued out v near = ap (λ (t : UrbState). t.queued) (giveback_other s f.history r v (λ is. not_low (subst (λ w. w < n) is near)) apart) ∙ out v near
+    where
+      r : Giveback
+      r = round_of s f u status finished t replies
 
-  takes_out : (f : Progress) → IsOut f → IsOut (with_takes s f)
-  takes_out f out = ap (λ (t : UrbState). t.queued) (below_state s f.history (ends_of s) v) ∙ out
+      not_low : u < n → ⊥
+      not_low low = true≢false (sym queued ∙ out u low)
 
-  pub gives_out : (f k : Progress) → Gives s f k → Serves s f → IsOut f → IsOut k
+      apart : IsApart v (posed s r)
+      apart = go (posed s r) refl
+        where
+          go : (o : Option Asking) → posed s r ≡ o → IsApart v o
+          go None e = tt
+          go (Some a) e = λ same. let before = posed_before s good f u status finished t replies a e in not_low (omega arith)
+
+  takes_out : (f : Progress) → AreOut f → AreOut (with_takes s f)
+  takes_out f out v near = ap (λ (t : UrbState). t.queued) (below_state s f.history (ends_of s) v) ∙ out v near
+
+  gives_out : (f k : Progress) → Gives s f k → Serves s f → AreOut f → AreOut k
   gives_out f _ (unlinked u why t is) old out = let serves = takes_serve s f old in
-      back_out (with_takes s f) (round_of s (with_takes s f) u (Fault (errno_of why)) false t (replies_had s (with_takes s f) u))
+      back_out (with_takes s f) u (Fault (errno_of why)) false t (replies_had s (with_takes s f) u)
       (pending_is_queued (machine_of s) (with_takes s f).history u serves.legal (marked_at_home s (with_takes s f).history u is.others serves.legal is.first)) (takes_out f out)
   gives_out f _ (ended e m u t n code unmarked passes near awake at goes) old out =
       let serves = takes_serve s f old in let same = passed s (with_takes s f) m e passes in
       let first : pending_of (machine_of s) (with_takes s f).history e ≡ u ∷ at.others = ap (λ h. pending_of (machine_of s) h e) (sym same.history) ∙ at.first in
       let here = first_at_home (machine_of s) (with_takes s f).history e u at.others serves.legal first in
       let queued = pending_is_queued (machine_of s) (with_takes s f).history u serves.legal (once u (pending_of (machine_of s) (with_takes s f).history (home s u)) at.others (ap (pending_of (machine_of s) (with_takes s f).history) (sym here) ∙ first)) in
-      back_out m (round_of s m u code true t (had_after s m e t n)) (ap (λ h. (state_of h u).queued) same.history ∙ queued) (ap (λ h. (state_of h v).queued) same.history ∙ takes_out f out)
+      back_out m u code true t (had_after s m e t n) (ap (λ h. (state_of h u).queued) same.history ∙ queued) (λ v low. ap (λ h. (state_of h v).queued) same.history ∙ takes_out f out v low)
 
-  loud_out : (u : ℕ) (f m : Progress) → StaysLoud s u f m → Serves s f → IsOut f → IsOut m × Serves s m
+  loud_out : (u : ℕ) (f m : Progress) → StaysLoud s u f m → Serves s f → AreOut f → AreOut m × Serves s m
   loud_out u f _ (begins loud) old out = (out, old)
-  loud_out u f _ (goes_on m k before turn loud) old out = let r = loud_out u f m before old out in (gives_out m k turn r.1 r.0, gives_serve s m k turn r.1)
+  loud_out u f _ (goes_on m k before turn loud) old out = let r = loud_out u f m before old out in (gives_out m k turn r.1 r.0, gives_serve s good m k turn r.1)
 
-  pub wait_out : (u : ℕ) (f k : Progress) → WaitsFor s u f k → Serves s f → IsOut f → IsOut k
+  wait_out : (u : ℕ) (f k : Progress) → WaitsFor s u f k → Serves s f → AreOut f → AreOut k
   wait_out u f _ (already quiet) old out = out
   wait_out u f _ (turns m k before turn quiet) old out = let r = loud_out u (woken f) m before (woken_serves s f old) out in gives_out m k turn r.1 r.0
 
@@ -112,18 +132,38 @@ kills-push p (v ∷ us) (b ∷ marks) [] u a rest e d = absurd (omega arith)
 kills-push p (v ∷ us) (b ∷ marks) (r ∷ rests) u a rest e d = ap (λ l. kill_entries p v b r ++ l) (kills-push p us marks rests u a rest (omega arith) (omega arith))
     ∙ sym (append_assoc (kill_entries p v b r) (kills_of p us marks rests) (kill_entries p u a rest))
 
-module _ (s : Scene) where
+-- lists that end with one more each are the same only where both parts are
+same_last : (us vs : List ℕ) (u v : ℕ) → us ++ u ∷ [] ≡ vs ++ v ∷ [] → (us ≡ vs) × (u ≡ v)
+same_last [] [] u v is = (refl, cc)
+same_last [] (x ∷ vs) u v is = let a = ap (λ l. length l) is in let b = length-append vs (v ∷ []) in absurd (omega arith)
+same_last (x ∷ us) [] u v is = let a = ap (λ l. length l) is in let b = length-append us (u ∷ []) in absurd (omega arith)
+same_last (x ∷ us) (y ∷ vs) u v is =
+    let head : x ≡ y = cc in
+    let rest = same_last us vs u v (cc) in
+    (ap (λ z. z ∷ us) head ∙ ap (λ l. y ∷ l) rest.0, rest.1)
+
+-- where a list that ends with u is that of the numbers below n, u is the last of them
+last_below : (us : List ℕ) (u n : ℕ) → us ++ u ∷ [] ≡ below n → (n ≡ suc u) × (us ≡ below u)
+last_below us u zero is = let a = ap (λ l. length l) is in let b = length-append us (u ∷ []) in absurd (omega arith)
+last_below us u (suc n) is = let same = same_last us (below n) u n is in (ap (λ k. suc k) (sym same.1), same.0 ∙ ap below (sym same.1))
+
+module _ (s : Scene) (good : IsWellFormed s) where
   abbrev main : ℕ
   main = main_pass s
 
-  pub closes_kill : (f : Progress) (us : List ℕ) (m : Progress) → Closes s f us m → Serves s f → AreKilled s f us m
-  closes_kill f _ _ none old = record { marks = []; rests = []; marks_each = refl; rests_each = refl; made = made_none s f main old; out = λ v l. absurd (omega arith) }
-  closes_kill f _ _ (one us u m k before waits) old =
-      let r = closes_kill f us m before old in
+  pub closes_kill : (f : Progress) (n : ℕ) (us : List ℕ) (m : Progress) → us ≡ below n → Closes s f us m → Serves s f → AreKilled s f us m
+  closes_kill f n _ _ all none old = record { marks = []; rests = []; marks_each = refl; rests_each = refl; made = made_none s f main old; out = λ v l. absurd (omega arith) }
+  closes_kill f n _ _ all (one us u m k before waits) old =
+      let low = (last_below us u n all).1 in
+      let r = closes_kill f u us m low before old in
       let mark : Code = unlinking (state_of m.history u) in let rest : Option ℕ = (state_of k.history u).rest in
       let last : List Entry = claim_entries main u rest ++ unblock_entries main u in
-      let kill = kill_made s main u (main_is_pass s) (main_not_server s) m k r.made.serves waits in
+      let kill = kill_made s main u (main_is_pass s) good (main_not_server s) m k r.made.serves waits in
       let quiet = wait_quiet s u (killing main u m) k waits in
+      let begins = begun s main u (main_is_pass s) good (main_not_server s) m k r.made.serves waits in
+      let lower : (v : ℕ) → v < u → (state_of k.history v).queued ≡ false
+      = wait_out s good u u (killing main u m) k waits begins.serves
+      (λ v near. still_queued m.history (plain_entry main (Reject record { 0 = u }) ∷ mark_entry main Kill u mark ∷ []) v (tt, (tt, tt)) ∙ r.out v (subst (λ l. 0 < times v l) (sym low) (all_below u v near))) in
       record {
         marks = r.marks ++ mark ∷ [];
         rests = r.rests ++ rest ∷ [];
@@ -131,11 +171,9 @@ module _ (s : Scene) where
         rests_each = (let a = length-append r.rests (rest ∷ []) in let b = length-append us (u ∷ []) in let c = r.rests_each in omega arith);
         made = subst (λ xs. IsMadeBy s f main xs (adds k last)) (sym (kills-push main us r.marks r.rests u mark rest r.marks_each r.rests_each))
             (made_on s f m (adds k last) main (kills_of main us r.marks r.rests) (kill_entries main u mark rest) r.made kill);
-        out = λ v l. still_queued k.history last v (tt, (tt, (tt, tt))) ∙ dite (ℕ_discrete v u)
-            (λ is. ap (λ (w : ℕ). (state_of k.history w).queued) is ∙ quiet.0)
-            (λ off. wait_out s v u (killing main u m) k waits (begun s main u (main_is_pass s) (main_not_server s) m k r.made.serves waits).serves
-            (still_queued m.history (plain_entry main (Reject record { 0 = u }) ∷ mark_entry main Kill u mark ∷ []) v (tt, (tt, tt))
-            ∙ r.out v (let a = times-append v us (u ∷ []) in let n : cond {A = ℕ} (eqb u v) 1 0 ≡ 0 = ap (λ b. cond {A = ℕ} b 1 0) (ne_eqb u v (λ i. off (sym i))) in omega arith)));
+        out = λ v l. still_queued k.history last v (tt, (tt, (tt, tt))) ∙ dite (ℕ_discrete u v)
+            (λ is. ap (λ (w : ℕ). (state_of k.history w).queued) (sym is) ∙ quiet.0)
+            (λ off. lower v (in_below u v (let a = times-append v us (u ∷ []) in let none : cond {A = ℕ} (eqb u v) 1 0 ≡ 0 = ap (λ b. cond {A = ℕ} b 1 0) (ne_eqb u v off) in subst (λ l. 0 < times v l) low (omega arith))));
       }
 
 -- main rejects each of these URBs and sees it quiet

@@ -1,21 +1,26 @@
 -- The cores of drivers know what comes back to them.
-use Rattle.std.proofs.Common.{ℕ, ◌≡◌, ◌<◌, Option, Some, None, List, length, sym, arith}
+use Rattle.std.proofs.Common.{ℕ, ◌≡◌, ◌<◌, Option, Some, None, List, length, sym, ◌∙◌, subst, arith}
 use Rattle.std.specs.Prelude.{slice_get}
 use Rattle.std.proofs.lemmas.Option.{slice_get_within}
+use Rattle.usb_types.specs.declared.urb.Role.TheVariants.{Ctl}
 use Rattle.usb_class.specs.declared.class_core.Core.{Core}
 use Rattle.usb_class.proofs.Facts.{can_complete, role_is_of_driver}
 use Rattle.usb_scene.specs.declared.scene.Scene.{Scene}
+use Rattle.usb_scene.specs.WellFormed.{IsWellFormed}
+use Rattle.usb_prepare.specs.Ends.{ends_of}
+use Rattle.usb_prepare.specs.Layout.{urb_count}
 use Rattle.usb_prepare.specs.Prepared.{bindings_of}
+use Rattle.usb_prepare.proofs.Facts.{bound_near, home_near}
 use Rattle.usb_line.specs.declared.owner.Owner.{Owner}
 use Rattle.usb_line.specs.declared.run.UrbRow.{UrbRow}
 use Rattle.usb_line.specs.declared.run.LineRun.{LineRun}
-use Rattle.usb_line.specs.Prepared.{owner_of}
+use Rattle.usb_line.specs.Prepared.{owner_of, origin_of}
 use Rattle.usb_line.specs.Run.{Giveback, done_at}
 use Rattle.usb_line.specs.Line.{Progress}
 use Rattle.usb_line.specs.Shows.{ShowsCores, Shows}
-use Rattle.usb_line.specs.Back.{CanNote}
+use Rattle.usb_line.specs.Back.{CanNote, CanAsk}
 use Rattle.usb_line.proofs.Homes.{some_at}
-use Rattle.usb_line.proofs.Owners.{owner_bound}
+use Rattle.usb_line.proofs.Owners.{owner_bound, owner_ctl}
 
 -- the owner of an URB has a core, to which the URB may come back
 owner_core : (s : Scene) (rounds : List Giveback) (cores : List Core) → ShowsCores s rounds cores → (u : ℕ) (o : Option Owner) → owner_of s u ≡ o → CanNote cores o
@@ -24,7 +29,23 @@ owner_core s rounds cores old u (Some o) is =
     let b = owner_bound s u o is in
     let near : o.place < length cores = (let l = slice_get_within (bindings_of s) o.place b.0 b.1 in let all = old.all in omega arith) in
     let core = some_at cores o.place near in
-    (core.0, core.1, can_complete b.0.driver (done_at s o.place rounds) core.0 o.role (old.each o.place core.0 b.0 core.1 b.1) (role_is_of_driver u b.0 o.role b.3))
+    (core.0, core.1, can_complete b.0.driver (origin_of s o.place) (done_at s o.place rounds) core.0 o.role (old.each o.place core.0 b.0 core.1 b.1) (role_is_of_driver u b.0 o.role b.3))
 
 pub row_core : (s : Scene) (f : Progress) (run : LineRun) → Shows s f run → (u : ℕ) (row : UrbRow) → slice_get run.urbs.items u ≡ Some row → CanNote run.cores.items row.owner
 row_core s f run old u row at = owner_core s f.rounds run.cores.items old.cores u row.owner (sym (old.each_urb u row at).owner)
+
+module _ (s : Scene) (good : IsWellFormed s) (f : Progress) (run : LineRun) (shows : Shows s f run) where
+  -- the URB that the owner's question is asked with is there, and its endpoint
+  owner_asks : (u : ℕ) (o : Option Owner) → owner_of s u ≡ o → CanAsk run o
+  owner_asks u None is = λ urb has. cc
+  owner_asks u (Some o) is = λ urb has.
+      let b = owner_bound s u o is in
+      let near : urb.0 < urb_count s = (bound_near s good o.place b.0 Ctl urb b.1 (sym (owner_ctl s u o is) ∙ has)).1 in
+      let urbs = shows.all_urbs in (
+        subst (λ n. urb.0 < n) (sym urbs) near,
+        subst (λ n. urb.0 < n) (sym shows.stands.urbs) near,
+        λ row at. subst (λ n. row.home < n) (sym shows.all_ends) (subst (λ (e : ℕ). e < ends_of s) (sym (shows.each_urb urb.0 row at).at) (home_near s good urb.0 near)),
+      )
+
+  pub row_asks : (u : ℕ) (row : UrbRow) → slice_get run.urbs.items u ≡ Some row → CanAsk run row.owner
+  row_asks u row at = owner_asks u row.owner (sym (shows.each_urb u row at).owner)

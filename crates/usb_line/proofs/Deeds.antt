@@ -126,11 +126,15 @@ module _ (s : Scene) (good : IsWellFormed s) where
       go : (o : Option ℕ) → role_urb s d i r ≡ o → IsKnown s code o (deed_on_any code o)
       go None e = known_absent s code is.0 is.1
       go (Some u) e = known_urb s code u is.0 is.1 (facts.role_near s good d i u r e).1
-  known_at code (target.Interface d i) is = subst (λ k. IsKnown s k None (deed_by s k (target.Interface d i))) (sym is.0) (go (called_urb s 23 d i) refl)
+  known_at code (target.Interface d i) is = go (called_urb s code d i) refl
     where
-      go : (o : Option ℕ) → called_urb s 23 d i ≡ o → IsKnown s 23 None (deed_called o)
-      go None e = record { there = tt; raised = λ v. refl; withdrawn = λ v. refl; hubs = refl }
-      go (Some u) e = record { there = called_near s good d i u e; raised = λ v. refl; withdrawn = λ v. refl; hubs = refl }
+      no_hub : is_hub_call code ≡ false
+      no_hub = let low = is.0 in
+          ap (λ b. cond b true (cond (eqb code 22) true false)) (ne_eqb code 21 (λ e. absurd (omega arith))) ∙ ap (λ b. cond b true false) (ne_eqb code 22 (λ e. absurd (omega arith)))
+
+      go : (o : Option ℕ) → called_urb s code d i ≡ o → IsKnown s code None (deed_called o)
+      go None e = record { there = tt; raised = λ v. refl; withdrawn = λ v. refl; hubs = no_hub }
+      go (Some u) e = record { there = called_near s good code d i u e; raised = λ v. refl; withdrawn = λ v. refl; hubs = no_hub }
   known_at code (target.Anchor a) is = absurd is
   known_at code (target.Device d) is = absurd is
 

@@ -16,6 +16,7 @@ use Rattle.usb_machine.specs.Parts.{part_of, held_of}
 use Rattle.usb_machine.specs.Legal.{times, Follows}
 use Rattle.usb_machine.specs.Calls.{plain_entry, mark_entry, marks_of, claims_of, claim_entries}
 use Rattle.usb_scene.specs.declared.scene.Scene.{Scene}
+use Rattle.usb_scene.specs.WellFormed.{IsWellFormed}
 use Rattle.usb_scene.specs.declared.scene.Call.{Call}
 use Rattle.usb_prepare.specs.Layout.{urb_count}
 use Rattle.usb_line.specs.declared.made.Deed.TheVariants as deed
@@ -47,6 +48,12 @@ in_below (suc n) v l = dite (ℕ_discrete n v) (λ is. omega arith)
     (λ other. let a = times-append v (below n) (n ∷ []) in let none : cond {A = ℕ} (eqb n v) 1 0 ≡ 0 = ap (λ b. cond {A = ℕ} b 1 0) (ne_eqb n v other) in
     let rest = in_below n v (omega arith) in omega arith)
 
+pub all_below : (n v : ℕ) → v < n → 0 < times v (below n)
+all_below zero v l = absurd (omega arith)
+all_below (suc n) v l = let a = times-append v (below n) (n ∷ []) in dite (ℕ_discrete n v)
+    (λ is. let one : cond {A = ℕ} (eqb n v) 1 0 ≡ 1 = ap (λ b. cond {A = ℕ} b 1 0) (eq-eqb n v is) in omega arith)
+    (λ off. let r = all_below n v (omega arith) in omega arith)
+
 module _ (s : Scene) (p : ℕ) (off : p ≢ SERVER) (there : p < 2 + (length s.threads + 1)) (f : Progress) where
   -- as many claims as URBs
   claims_length : (us : List ℕ) (rests : List (Option ℕ)) (m : Progress) → ClaimsEach s p f us rests m → length rests ≡ length us
@@ -61,13 +68,13 @@ module _ (s : Scene) (p : ℕ) (off : p ≢ SERVER) (there : p < 2 + (length s.t
   claims-push (v ∷ us) (r ∷ rests) u rest e = ap (λ l. claim_entries p v r ++ l) (claims-push us rests u rest (omega arith))
 
   -- each of these URBs is waited for and claimed under the hub's flag
-  claims_made : (us : List ℕ) (rests : List (Option ℕ)) (m : Progress) → ClaimsEach s p f us rests m → ((v : ℕ) → 0 < times v us → down_at v (part_of f.history p) ≡ true) → Serves s f
+  claims_made : IsWellFormed s → (us : List ℕ) (rests : List (Option ℕ)) (m : Progress) → ClaimsEach s p f us rests m → ((v : ℕ) → 0 < times v us → down_at v (part_of f.history p) ≡ true) → Serves s f
       → IsMadeBy s f p (claims_of p us rests) m
-  claims_made _ _ _ none flagged old = made_none s f p old
-  claims_made _ _ _ (one us rests u m k before waits) flagged old =
-      let made = claims_made us rests m before (λ v l. flagged v (let a = times-append v us (u ∷ []) in omega arith)) old in
+  claims_made good _ _ _ none flagged old = made_none s f p old
+  claims_made good _ _ _ (one us rests u m k before waits) flagged old =
+      let made = claims_made good us rests m before (λ v l. flagged v (let a = times-append v us (u ∷ []) in omega arith)) old in
       let here : 0 < times u (us ++ u ∷ []) = let a = times-append u us (u ∷ []) in let b : cond {A = ℕ} (eqb u u) 1 0 ≡ 1 = ap (λ b. cond {A = ℕ} b 1 0) (eq-eqb u u refl) in omega arith in
-      let waited = made_turned s f m k p (claims_of p us rests) off made (wait_serves s u m k waits made.serves) (wait_turned s u m k waits) in
+      let waited = made_turned s f m k p (claims_of p us rests) off made (wait_serves s good u m k waits made.serves) (wait_turned s u m k waits) in
       let quiet = wait_quiet s u m k waits in
       let down : down_at u (part_of k.history p) ≡ true
       = ap (down_at u) waited.own ∙ (ap (λ f. f.down) (no_flag u (part_of f.history p) (claims_of p us rests) (claims_no_flag p us rests)) ∙ flagged u here) in
@@ -76,7 +83,7 @@ module _ (s : Scene) (p : ℕ) (off : p ≢ SERVER) (there : p < 2 + (length s.t
       (made_entries s k p (claim_entries p u (state_of k.history u).rest) off (refl, (refl, tt))
       (claim_follow s p u there k.history quiet.0 quiet.1 (holds_down (held_of (part_of k.history p) u) down)) (tt, (tt, tt)) waited.serves))
 
-module _ (s : Scene) (f : Progress) (i : ℕ) (c : Call) (can : CanCall s f i c) (is : deed_of s c ≡ deed.Down) (up : f.down ≡ false) where
+module _ (s : Scene) (good : IsWellFormed s) (f : Progress) (i : ℕ) (c : Call) (can : CanCall s f i c) (is : deed_of s c ≡ deed.Down) (up : f.down ≡ false) where
   abbrev p : ℕ
   p = pass_of s i
 
@@ -127,7 +134,7 @@ module _ (s : Scene) (f : Progress) (i : ℕ) (c : Call) (can : CanCall s f i c)
     down_called = record {
       made = subst (λ dd. IsMadeBy s f p (deed_entries s p c dd told.Done (shut_marks s p f) rests f.down) m) (sym is)
           (made_on s f (shutting s p f) m p (flags ++ marks) (claims_of p (urbs_of s) rests) shut
-          (claims_made s p (not_server s i) (is_pass s i can.near) (shutting s p f) (urbs_of s) rests m claims all_down shut.serves));
+          (claims_made s p (not_server s i) (is_pass s i can.near) (shutting s p f) good (urbs_of s) rests m claims all_down shut.serves));
       answered = subst (λ dd. IsAnswered s made dd told.Done) (sym is) (
         subst (λ b. IsDownAnswer b told.Done) (sym up) refl,
         λ _. (

@@ -1,8 +1,6 @@
 -- The close: main's kills, one after another, and what it sees then.
-use Rattle.std.proofs.Common.{ℕ, zero, suc, ◌≡◌, ◌+◌, ◌<◌, false, cond, eqb, Option, List, [], ◌∷◌, ◌++◌, length, refl, sym, ap, ◌∙◌, subst, arith, add-one, append_assoc, append-nil, eq-eqb}
+use Rattle.std.proofs.Common.{ℕ, ◌≡◌, ◌+◌, ◌<◌, false, Option, List, [], ◌∷◌, ◌++◌, length, refl, sym, ap, ◌∙◌, subst, arith, add-one, append_assoc, append-nil}
 use Rattle.std.specs.List.{flat_map}
-use mathlib.Core.Logic.{dite}
-use native.Mathlib.Decide.{ℕ_discrete}
 use Rattle.usb_types.specs.declared.errno.Code.{Code}
 use Rattle.usb_types.specs.declared.urb.Why.TheVariants.{Kill}
 use Rattle.usb_machine.specs.declared.event.Event.TheVariants.{Reject}
@@ -11,7 +9,6 @@ use Rattle.usb_machine.specs.declared.plain.Plain.{Plain}
 use Rattle.usb_machine.specs.State.{unlinking}
 use Rattle.usb_machine.specs.History.{state_of}
 use Rattle.usb_machine.specs.Parts.{part_of, held_of}
-use Rattle.usb_machine.specs.Legal.{times}
 use Rattle.usb_machine.specs.Plain.{Stands}
 use Rattle.usb_machine.specs.Calls.{plain_entry, mark_entry, claim_entries, unblock_entries, kill_entries}
 use Rattle.usb_scene.specs.declared.scene.Scene.{Scene}
@@ -26,18 +23,12 @@ use Rattle.usb_line.proofs.Entries.{grows}
 use Rattle.usb_line.proofs.Held.{rejects_at, no_reject}
 use Rattle.usb_line.proofs.Effects.{kill_effect}
 use Rattle.usb_line.proofs.Waits.{wait_turned}
-use Rattle.usb_line.proofs.Marked.{times-append}
 use Rattle.usb_line.proofs.Passes.{main_not_server, main_is_pass}
 use Rattle.usb_line.proofs.ReadsFollow.{reads_no_reject}
 use Rattle.usb_line.proofs.Calls.{Goes, line_goes}
+use Rattle.usb_line.proofs.Downs.{all_below}
 use Rattle.usb_line.proofs.Closing.{closes_kill, seen_still}
 use Rattle.usb_line.proofs.Showing.{shows_still}
-
-all_below : (n v : ℕ) → v < n → 0 < times v (below n)
-all_below zero v l = absurd (omega arith)
-all_below (suc n) v l = let a = times-append v (below n) (n ∷ []) in dite (ℕ_discrete n v)
-    (λ is. let one : cond {A = ℕ} (eqb n v) 1 0 ≡ 1 = ap (λ b. cond {A = ℕ} b 1 0) (eq-eqb n v is) in omega arith)
-    (λ off. let r = all_below n v (omega arith) in omega arith)
 
 module _ (s : Scene) where
   abbrev main : ℕ
@@ -91,7 +82,7 @@ module _ (s : Scene) where
       each_quiet : (u : ℕ) → u < n → ((state_of at.far.history u).queued ≡ false) × ((state_of at.far.history u).handlers ≡ 0) × ((held_of (part_of at.far.history main) u).rejects < 255)
       each_quiet u near =
           let none = few_rejects u (urbs_of s) at.far closes in (
-            (closes_kill s f (urbs_of s) at.far closes goes.serves).out u (all_below (urb_count s) u (subst (λ n. u < n) all near)),
+            (closes_kill s is.good f (urb_count s) (urbs_of s) at.far refl closes goes.serves).out u (all_below (urb_count s) u (subst (λ n. u < n) all near)),
             (at.shows.calm u).handlers,
             omega arith,
           )

@@ -1,29 +1,58 @@
 -- In a well-formed scene each URB has a home, and the home of one of its own takes what a submit sends where its shape has no
 -- fault.
-use Rattle.std.proofs.Common.{ℕ, zero, suc, ◌≡◌, ◌<◌, ◌≤◌, true, replicate, Option, Some, None, List, [], ◌∷◌, length, refl, sym, ◌∙◌, subst, arith, true≢false}
-use Rattle.std.specs.Prelude.{slice_get}
+use Rattle.std.proofs.Common.{ℕ, zero, suc, ◌≡◌, ◌<◌, ◌≤◌, Bool, true, false, cond, replicate, Option, Some, None, List, [], ◌∷◌, length, refl, sym, subst, arith}
+use Rattle.std.specs.Prelude.{◌==◌, ◌||◌, min, slice_get}
 use Rattle.std.specs.List.{All}
 use Rattle.std.proofs.lemmas.List.{length-replicate}
 use Rattle.usb_machine.specs.declared.layout.Shape.{Shape}
-use Rattle.usb_machine.specs.declared.transfer.Transfer.{Transfer}
 use Rattle.usb_machine.specs.Shapes.{HasWindow, Accepts}
 use Rattle.usb_machine.specs.History.{HasHome}
 use Rattle.usb_xfer.specs.Direction.{asked_at}
+use Rattle.usb_class.specs.Calls.{coding_of}
 use Rattle.usb_scene.specs.declared.scene.Scene.{Scene}
 use Rattle.usb_scene.specs.declared.scene.SceneUrb.{SceneUrb}
 use Rattle.usb_scene.specs.declared.scene.Call.{Call}
+use Rattle.usb_scene.specs.declared.scene.Target.{Target}
+use Rattle.usb_scene.specs.declared.scene.Target.TheVariants as target
 use Rattle.usb_scene.specs.WellFormed.{IsUrb, IsBuffer, IsWellFormed}
 use Rattle.usb_prepare.specs.Ends.{shapes_of, shape_at, is_raw_at}
 use Rattle.usb_prepare.specs.Layout.{urb_count, home}
 use Rattle.usb_prepare.proofs.Facts as facts
-use Rattle.usb_line.specs.Prepared.{machine_of, len_in, buffer_of, fresh, submit_fault}
-use Rattle.usb_line.specs.Shows.{IsApt}
+use Rattle.usb_line.specs.Prepared.{machine_of, len_in, buffer_of, payload_by, window_by, fresh, submit_fault}
 
 -- what stands at a place of a list
 pub some_at : {X : Type 0} (xs : List X) (k : ℕ) → k < length xs → (x : X) × (slice_get xs k ≡ Some x)
 some_at [] k l = absurd (omega arith)
 some_at (x ∷ xs) zero l = (x, refl)
 some_at (x ∷ xs) (suc k) l = some_at xs k (omega arith)
+
+-- what a call sends to an interface is no longer than what it says, or short
+small : (a b c : Bool) (numbers : List ℕ) (bytes : Option (List ℕ)) → IsBuffer bytes → IsBuffer (cond a (Some (coding_of numbers)) (cond b (Some []) (cond c (Some (0 ∷ [])) bytes)))
+small true b c numbers bytes is = omega arith
+small false true c numbers bytes is = omega arith
+small false false true numbers bytes is = omega arith
+small false false false numbers bytes is = is
+
+payload_few : (c : Call) (t : Target) → IsBuffer c.bytes → IsBuffer (payload_by t c)
+payload_few c (target.Interface d i) is = small (c.code == 25) (c.code == 26 || c.code == 27 || c.code == 30) (c.code == 29) c.numbers c.bytes is
+payload_few c target.Nothing is = is
+payload_few c (target.Urb u) is = is
+payload_few c (target.Role d i r) is = is
+payload_few c (target.Anchor a) is = is
+payload_few c (target.Device d) is = is
+
+-- a call's window lies in its buffer
+least : (b : Bool) (n : ℕ) → cond b (min n 8192) n ≤ n
+least true n = omega arith
+least false n = omega arith
+
+window_few : (c : Call) (t : Target) (n : ℕ) → window_by t c n ≤ n
+window_few c (target.Interface d i) n = least (c.code == 28) n
+window_few c target.Nothing n = omega arith
+window_few c (target.Urb u) n = omega arith
+window_few c (target.Role d i r) n = omega arith
+window_few c (target.Anchor a) n = omega arith
+window_few c (target.Device d) n = omega arith
 
 module _ (s : Scene) (good : IsWellFormed s) (u : ℕ) where
   -- each URB has a home, which has a shape
@@ -55,11 +84,15 @@ module _ (s : Scene) (good : IsWellFormed s) (u : ℕ) where
   short (x ∷ us) a zero = (a zero x (omega arith)).len
   short (x ∷ us) a (suc u) = short us (λ k d m. a (suc k) d (omega arith)) u
 
-  -- the window of a submit's transfer is its buffer
-  pub fresh_window : (c : Call) → IsBuffer c.bytes → HasWindow (fresh s u c)
-  fresh_window c b = let l = long c.bytes b in record { window = omega arith; buffer = omega arith; within = omega arith }
+  -- a submit's buffer is short
+  pub fresh_long : (c : Call) → IsBuffer c.bytes → length (buffer_of (len_in (slice_get s.urbs u)) (payload_by c.target c)) ≤ 16384
+  fresh_long c b = long (payload_by c.target c) (payload_few c c.target b)
     where
       long : (o : Option (List ℕ)) → IsBuffer o → length (buffer_of (len_in (slice_get s.urbs u)) o) ≤ 16384
       long None b = let is : length (replicate {A = ℕ} (len_in (slice_get s.urbs u)) 0) ≡ len_in (slice_get s.urbs u) = length-replicate (len_in (slice_get s.urbs u)) 0 in
           let most = short s.urbs good.urbs u in omega arith
       long (Some bytes) b = b
+
+  -- and the window of its transfer lies in it
+  pub fresh_window : (c : Call) → IsBuffer c.bytes → HasWindow (fresh s u c)
+  fresh_window c b = let l = fresh_long c b in let few = window_few c c.target (length (fresh s u c).buf) in record { window = omega arith; buffer = omega arith; within = omega arith }

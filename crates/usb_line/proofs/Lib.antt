@@ -49,14 +49,17 @@ pub mod Nows
 pub mod Downs
 pub mod Calls
 pub mod Longer
+pub mod Before
 pub mod Closing
-pub mod Lights
+pub mod OnInterface
 pub mod Lines
 pub mod Alone
 pub mod Stopping
 pub mod Showing
 pub mod Awake
 pub mod Opening
+pub mod Numbered
+pub mod Asking
 pub mod Waiting
 pub mod Killing
 pub mod InTurn
@@ -71,3 +74,4 @@ pub mod Submitted
 pub mod Owners
 pub mod Apt
 pub mod Reading
+pub mod Inquiries

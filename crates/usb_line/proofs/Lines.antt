@@ -1,5 +1,5 @@
 -- The run in line order is a run of its scene.
-use Rattle.std.proofs.Common.{ℕ, zero, suc, ◌≡◌, ◌+◌, ◌<◌, ◌≤◌, Bool, true, false, cond, eqb, Some, List, [], ◌∷◌, ◌++◌, length, map, refl, sym, ap, ◌∙◌, subst, arith, append_assoc, append-nil, length-append, eq-eqb, true≢false}
+use Rattle.std.proofs.Common.{ℕ, zero, suc, ◌≡◌, ◌+◌, ◌<◌, ◌≤◌, Bool, true, false, eqb, Some, List, [], ◌∷◌, ◌++◌, length, map, refl, sym, ap, ◌∙◌, subst, arith, append_assoc, append-nil, length-append, true≢false}
 use Rattle.std.specs.Prelude.{slice_get}
 use Rattle.std.specs.List.{flat_map, All}
 use Rattle.std.proofs.lemmas.List.{append_cancel_left}
@@ -17,27 +17,19 @@ use Rattle.usb_scene.specs.declared.scene.Scene.{Scene}
 use Rattle.usb_scene.specs.WellFormed.{IsWellFormed}
 use Rattle.usb_prepare.specs.Layout.{urb_count}
 use Rattle.usb_line.specs.Prepared.{machine_of, pass_of, main_pass}
-use Rattle.usb_prepare.specs.Below.{below}
-use Rattle.usb_line.specs.Run.{urbs_of, Giveback, done_by, call_entries, seen_quiet, kills_of, rounds_at, replies_in, firsts_of, IsMade, AreDowns, opening, IsOver, IsFramed, IsRun}
+use Rattle.usb_line.specs.Run.{urbs_of, Giveback, done_by, call_entries, seen_quiet, kills_of, firsts_of, IsMade, AreDowns, opening, IsOver, IsFramed, IsRun}
 use Rattle.usb_line.specs.Line.{Progress, begun, adds, IsLineRun}
 use Rattle.usb_line.proofs.MayFollow.{once}
-use Rattle.usb_line.proofs.Marked.{times-append}
 use Rattle.usb_line.proofs.Serving.{AreFirstGiven, Serves}
 use Rattle.usb_line.proofs.Passes.{not_server, not_main}
 use Rattle.usb_line.proofs.Scripted.{placed as call_of, calls_made}
 use Rattle.usb_line.proofs.Makings.{IsMadeBy}
-use Rattle.usb_line.proofs.Downs.{length-below}
+use Rattle.usb_line.proofs.Downs.{length-below, all_below}
 use Rattle.usb_line.proofs.Calls.{Goes, line_goes}
 use Rattle.usb_line.proofs.Entries.{part_own, part_other}
 use Rattle.usb_line.proofs.ReadsFollow.{reads_pass}
 use Rattle.usb_line.proofs.Longer.{IsLonger, line_longer, closes_longer}
 use Rattle.usb_line.proofs.Closing.{AreKilled, closes_kill, closed, still_queued, seen_still}
-
-below_all : (n v : ℕ) → v < n → 0 < times v (below n)
-below_all zero v l = absurd (omega arith)
-below_all (suc n) v l = let a = times-append v (below n) (n ∷ []) in dite (ℕ_discrete n v)
-    (λ is. let one : cond {A = ℕ} (eqb n v) 1 0 ≡ 1 = ap (λ b. cond {A = ℕ} b 1 0) (eq-eqb n v is) in omega arith)
-    (λ off. let r = below_all n v (omega arith) in omega arith)
 
 in_pending_once : (g : Machine) (h : List Entry) (e v : ℕ) → Placed g h v → times v (pending_of g h e) ≤ bit (state_of h v).queued
 in_pending_once g h e v at = let o = at.once in dite (ℕ_discrete e (home_of g v))
@@ -77,7 +69,7 @@ module _ (s : Scene) (good : IsWellFormed s) (f : Progress) (run : IsLineRun s f
   goes = line_goes s good called run.in_line [] (append-nil (map call_of called.doings) ∙ run.all)
 
   kills : AreKilled s called urbs run.killed
-  kills = closes_kill s called urbs run.killed run.closes goes.serves
+  kills = closes_kill s good called (urb_count s) urbs run.killed refl run.closes goes.serves
 
   made : IsMadeBy s called (main_pass s) (kills_of (main_pass s) urbs kills.marks kills.rests ++ flat_map (seen_quiet (main_pass s)) urbs) last
   made = closed s called urbs run.killed kills
@@ -97,7 +89,7 @@ module _ (s : Scene) (good : IsWellFormed s) (f : Progress) (run : IsLineRun s f
       go true is =
           let near = home_below (machine_of s) v (queued_has_home (machine_of s) v h serves.legal is) in
           let here : v < urb_count s = omega arith in
-          absurd (true≢false (sym is ∙ (still_queued run.killed.history (flat_map (seen_quiet (main_pass s)) urbs) v (seen_still (main_pass s) urbs) ∙ kills.out v (below_all (urb_count s) v here))))
+          absurd (true≢false (sym is ∙ (still_queued run.killed.history (flat_map (seen_quiet (main_pass s)) urbs) v (seen_still (main_pass s) urbs) ∙ kills.out v (all_below (urb_count s) v here))))
 
   is_over : IsOver s h
   is_over = record {

@@ -14,6 +14,7 @@ use Rattle.usb_machine.specs.Legal.{Follows}
 use Rattle.usb_machine.specs.Calls.{entry, plain_entry, mark_entry, claim_entries, poison_entries, kill_entries, unblock_entries}
 use Rattle.usb_machine.proofs.Steps.{part_own}
 use Rattle.usb_scene.specs.declared.scene.Scene.{Scene}
+use Rattle.usb_scene.specs.WellFormed.{IsWellFormed}
 use Rattle.usb_line.specs.Prepared.{machine_of}
 use Rattle.usb_line.specs.Line.{Progress, adds, killing, WaitsFor}
 use Rattle.usb_line.proofs.Entries.{AreOf, grows, stays, own_state, AllFollow, AllFollow-append}
@@ -84,7 +85,7 @@ module _ (s : Scene) (p u : ℕ) (there : p < 2 + (length s.threads + 1)) where
       let same : unlinking (state_of (h ++ reject ∷ []) u) ≡ unlinking (state_of h u) = ap unlinking (own_state u h (reject ∷ []) (tt, refl, tt)) in
       (reject_follows s h p u there, (subst (λ (c : Code). Follows (machine_of s) (h ++ plain_entry p (Reject record { 0 = u }) ∷ []) (mark_entry p Kill u c)) same (mark_follows s (h ++ reject ∷ []) p u there Kill), tt))
 
-  module _ (off : p ≢ SERVER) (f m : Progress) (old : Serves s f) (waits : WaitsFor s u (killing p u f) m) where
+  module _ (good : IsWellFormed s) (off : p ≢ SERVER) (f m : Progress) (old : Serves s f) (waits : WaitsFor s u (killing p u f) m) where
     abbrev begins : List Entry
     begins = plain_entry p (Reject record { 0 = u }) ∷ mark_entry p Kill u (unlinking (state_of f.history u)) ∷ []
 
@@ -93,7 +94,7 @@ module _ (s : Scene) (p u : ℕ) (there : p < 2 + (length s.threads + 1)) where
     begun = made_entries s f p begins off (refl, (refl, tt)) (begin_follow f.history) (tt, (tt, tt)) old
 
     waited : IsMadeBy s f p begins m
-    waited = made_turned s f (killing p u f) m p begins off begun (wait_serves s u (killing p u f) m waits begun.serves) (wait_turned s u (killing p u f) m waits)
+    waited = made_turned s f (killing p u f) m p begins off begun (wait_serves s good u (killing p u f) m waits begun.serves) (wait_turned s u (killing p u f) m waits)
 
     -- the pass holds the reject until it is withdrawn
     held_so : 0 < rejects_at u (part_of m.history p)

@@ -1,9 +1,7 @@
 -- The first pending transfer of an endpoint is moved on: it comes back, or it waits.
 use Rattle.std.proofs.Common.{ℕ, ◌≡◌, ◌≢◌, ◌+◌, ◌<◌, Bool, true, false, cond, Option, Some, None, List, [], ◌∷◌, ◌++◌, length, refl, sym, ap, ◌∙◌, subst, arith, append_assoc, length-append, eq-eqb, ne_eqb, ◌≤◌}
-use Rattle.std.specs.Prelude.{slice_get, slice_set, sum_by}
+use Rattle.std.specs.Prelude.{slice_get, slice_set}
 use Rattle.std.proofs.lemmas.List.{length-set, length-replicate, replicate-append-replicate}
-use Rattle.std.proofs.lemmas.List.Sums.{sum_by-set}
-use Rattle.std.proofs.lemmas.Option.{slice_get_within, get_or_from_slice_get}
 use mathlib.Core.Logic.{dite}
 use native.Mathlib.Decide.{ℕ_discrete}
 use Rattle.usb_types.specs.declared.errno.Code.{Code}
@@ -21,7 +19,6 @@ use Rattle.usb_xfer.specs.declared.packet.Step.{Step}
 use Rattle.usb_xfer.specs.declared.packet.Step.TheVariants.{More, Waiting, Ended}
 use Rattle.usb_xfer.specs.Moved.{moved, state_by, IsOpen, question_of}
 use Rattle.usb_xfer.specs.On.{Gave, RunsOn, Stops}
-use Rattle.usb_device.specs.declared.scripted.Scripted.{Scripted}
 use Rattle.usb_device.specs.Replied.{Replied}
 use Rattle.usb_scene.specs.declared.scene.Scene.{Scene}
 use Rattle.usb_scene.specs.WellFormed.{IsWellFormed}
@@ -29,11 +26,11 @@ use Rattle.usb_line.specs.declared.run.EndRow.{EndRow}
 use Rattle.usb_line.specs.declared.run.LineRun.{LineRun}
 use Rattle.usb_prepare.specs.Ends.{shape_at, ends_of}
 use Rattle.usb_prepare.specs.Layout.{home}
-use Rattle.usb_line.specs.Prepared.{machine_of, script_of, owner_of}
+use Rattle.usb_line.specs.Prepared.{machine_of, owner_of}
 use Rattle.usb_line.specs.Due.{next_due}
-use Rattle.usb_line.specs.Run.{Giveback, is_first, asked_of, resent, rounds_at, replies_in}
+use Rattle.usb_line.specs.Run.{Giveback, is_first, asked_of, resent}
 use Rattle.usb_line.specs.Line.{Progress, asks, asked_so_far, marked_of, replies_had, had_after, GoesTo, IsServed, round_of, given_back, waits, over, stops}
-use Rattle.usb_line.specs.Shows.{HoldsTransfer, ShowsUrb, ShowsEnd, ShowsDevices, asked_now, Shows, held, turns_left, IsApt, ShowsCores}
+use Rattle.usb_line.specs.Shows.{HoldsTransfer, ShowsUrb, ShowsEnd, ShowsDevices, asked_now, Shows, behind, turns_left, ShowsCores}
 use Rattle.usb_line.specs.Back.{MayGive, GaveBack}
 use Rattle.usb_line.specs.Turned.{code_of, SameElse, TakesOut, MovedOn, FallsAsleep, FirstAwake, EndsAt, PassesBy}
 use Rattle.usb_line.proofs.MayFollow.{once}
@@ -42,7 +39,6 @@ use Rattle.usb_prepare.proofs.Facts.{home_near}
 use Rattle.usb_line.proofs.Dues.{length-due}
 use Rattle.usb_line.proofs.Questions.{control_moved}
 use Rattle.usb_line.proofs.Asked.{asked_first, asked_same}
-use Rattle.usb_line.proofs.Scripts.{length-replies}
 use Rattle.usb_line.proofs.Turns.{outcome_gated, clear_mark}
 use Rattle.usb_line.proofs.Backs.{asked_taken, asked_others}
 use Rattle.usb_line.proofs.Lookups.{set_read, set_twice, each_set}
@@ -50,7 +46,8 @@ use Rattle.usb_line.proofs.Pendings.{IsHeld, held_transfer}
 use Rattle.usb_line.proofs.Chained.{goes}
 use Rattle.usb_line.proofs.Devices.{replies_due, devices_asked}
 use Rattle.usb_line.proofs.Returned.{shows_returned, falls_returned}
-use Rattle.usb_line.proofs.Falling.{weight, all_left, devices_keep, devices_fall, waits_keeps, driver_spends}
+use Rattle.usb_line.proofs.Asking.{can_pose_any}
+use Rattle.usb_line.proofs.Falling.{moved_behind, all_left, devices_keep, devices_fall, waits_keeps, driver_spends}
 use Rattle.usb_line.proofs.Resending.{moved_fits}
 
 is_ended : (step : Step) (code : Code) → Some code ≡ code_of step → step ≡ Ended code
@@ -158,6 +155,10 @@ module _ (s : Scene) (good : IsWellFormed s) (f : Progress) (run out_run on : Li
   mid_same : SameElse run on
   mid_same = record { plain = moves.same.plain ∙ out.same.plain; told = moves.same.told ∙ out.same.told; host = moves.same.host ∙ out.same.host; cores = moves.same.cores ∙ out.same.cores }
 
+  -- as much stands behind its window
+  stood : behind now ≡ behind t
+  stood = ap behind moved_now ∙ (moved_behind (shape_at s e) start (had_after s f e start n) has.sent_window ∙ sym (ap behind has.moving.moving ∙ moved_behind (shape_at s e) start (replies_had s f u) has.sent_window))
+
   -- it ended, and came back
   module _ (ending : Code) (is : code ≡ Some ending) (new : LineRun) (back : GaveBack on new u (Some ending) now) (unmarked : marked_of s h ≡ []) (awake : f.asleep e ≡ false) where
     abbrev r : Giveback
@@ -178,6 +179,7 @@ module _ (s : Scene) (good : IsWellFormed s) (f : Progress) (run out_run on : Li
         taken = has.taken;
         goes = fits.0;
         fits = fits.1;
+        asks = can_pose_any s good u;
         settled = ((others, first), clear_mark (state_of h u).mark (first_unmarked s h e u others (home_near s good u has.near) unmarked first) (old.calm u).mark);
         gated = outcome_gated s f u ending true (moved (shape_at s e) start (had_after s f e start n));
       };
@@ -195,15 +197,15 @@ module _ (s : Scene) (good : IsWellFormed s) (f : Progress) (run out_run on : Li
       code = ending;
       at = served;
       goes = subst (GoesTo s f e start n) ends_so so_far;
-      shows = shows_returned s f run old u out.row out.at moves.end there on new mid_rows mid_ends mid_same (Some ending) now back ending true start (had_after s f e start n)
-          may moved_now has.moving.apt (devices_then (given_back s f r) (asked_taken s f r is_first_here) (λ c off. asked_others s f r old.stands.legal old.unmoved c (λ i. off (sym i))));
+      shows = shows_returned s good f run old u out.row out.at moves.end there on new mid_rows mid_ends mid_same (Some ending) now back ending true start (had_after s f e start n)
+          may moved_now has.moving.apt (devices_then (given_back s f r) (asked_taken s f r is_first_here) (λ c off. asked_others s f r may.can old.stands.legal old.unmoved c (λ i. off (sym i))));
     }
 
     pub ended_falls : turns_left new < turns_left run
-    ended_falls = falls_returned s f run old u out.row out.at moves.end there on new mid_rows mid_ends mid_same (Some ending) now back ending true start (had_after s f e start n)
-        may moved_now t out.is items_keep
-        (λ o m own again. devices_fall run.devices.items on.devices.items (shape_at s e).device moves.device moves.after device_there devices_so
-        (driver_spends s good u start has.moving.apt o own (f.so_far e) (subst (IsOpen (shape_at s e) start) had has.moving.going) moves.more now moves.step ending stop ends_so m again
+    ended_falls = falls_returned s good f run old u out.row out.at moves.end there on new mid_rows mid_ends mid_same (Some ending) now back ending true start (had_after s f e start n)
+        may moved_now t out.is stood items_keep
+        (λ o m own read again. devices_fall run.devices.items on.devices.items (shape_at s e).device moves.device moves.after device_there devices_so
+        (driver_spends s good u start has.moving.apt o own (f.so_far e) (subst (IsOpen (shape_at s e) start) had has.moving.going) moves.more now moves.step ending stop ends_so read m again
         t moves.device moves.after gave moves.runs.some))
 
   -- it waits
@@ -321,7 +323,7 @@ module _ (s : Scene) (good : IsWellFormed s) (f : Progress) (run out_run on : Li
     passes_waiting awake = record { far = m; passes = λ g p. stops e f u start n p awake served waiting; same = refl; shows = shows_waiting }
 
     pub waiting_keeps : turns_left new ≤ turns_left run
-    waiting_keeps = waits_keeps run new u out.row t now out.at out.is rows
+    waiting_keeps = waits_keeps run new u out.row t now out.at out.is stood rows
         (let same : all_left new.devices.items ≡ all_left on.devices.items = ap (λ l. all_left l.items) sleeps.same_devices in let keeps = items_keep in omega arith)
 
 -- an endpoint that sleeps, or where nothing is pending, is passed over

@@ -21,8 +21,6 @@ use Rattle.usb_scene.specs.declared.scene.Scene.{Scene}
 use Rattle.usb_scene.specs.declared.scene.Call.{Call}
 use Rattle.usb_scene.specs.WellFormed.{IsCall, IsWellFormed}
 use Rattle.usb_prepare.specs.Layout.{urb_count}
-use Rattle.usb_line.specs.declared.owner.Owner.{Owner}
-use Rattle.usb_line.specs.Between.{IsBare}
 use Rattle.usb_line.specs.declared.made.Deed.{Deed}
 use Rattle.usb_line.specs.declared.made.Deed.TheVariants as deed
 use Rattle.usb_line.specs.declared.made.CallAnswer.{CallAnswer}
@@ -34,7 +32,7 @@ use Rattle.usb_line.proofs.Entries.{AllFollow}
 use Rattle.usb_line.proofs.MayFollow.{mark_follows, reject_follows, withdraw_follows, unflag_follows}
 use Rattle.usb_line.specs.Shows.{IsApt}
 use Rattle.usb_line.proofs.Homes.{has_home, home_takes, fresh_window}
-use Rattle.usb_line.proofs.Lights.{fresh_apt}
+use Rattle.usb_line.proofs.OnInterface.{fresh_apt}
 use Rattle.usb_line.proofs.Submits.{submit_follow}
 use Rattle.usb_line.proofs.Stills.{unflags_still}
 use Rattle.usb_line.proofs.Each.{each_follow}
@@ -127,16 +125,16 @@ module _ (s : Scene) (good : IsWellFormed s) (f : Progress) (i : ℕ) (c : Call)
   now_follow deed.Absent a e near backed hub = subst (λ a. AllFollow (machine_of s) h (entries deed.Absent a f.down)) (told_of _ a e) tt
   now_follow deed.Other a e near backed hub = cc
 
-  submit_now_bare : (u : ℕ) → IsApt s u (fresh s u c) → (o : Option Errno) (code : Code) → AreBare s (submit_of o p u (fresh s u c) code)
-  submit_now_bare u apt (Some e) code = tt
-  submit_now_bare u apt None code = submit_bare s p u (fresh s u c) code apt.bare
+  submit_now_bare : (u : ℕ) → (o : Option Errno) → (o ≡ None → IsApt s u (fresh s u c)) → (code : Code) → AreBare s (submit_of o p u (fresh s u c) code)
+  submit_now_bare u (Some e) apt code = tt
+  submit_now_bare u None apt code = submit_bare s p u (fresh s u c) code (apt refl).bare
 
   up_bare : (b : Bool) → AreBare s (entries deed.Up told.Done b)
   up_bare false = tt
   up_bare true = stills_bare s _ (unflags_still p flag.Down (urbs_of s))
 
   now_bare : (dd : Deed) (a : CallAnswer) → answer_now s f c dd ≡ Some a → deed_of s c ≡ dd → AreBare s (entries dd a f.down)
-  now_bare (deed.Submit u) a e is = subst (λ a. AreBare s (entries (deed.Submit u) a f.down)) (told_of _ a e) (submit_now_bare u (fresh_apt s good u c can.is is) (submit_fault s u c) _)
+  now_bare (deed.Submit u) a e is = subst (λ a. AreBare s (entries (deed.Submit u) a f.down)) (told_of _ a e) (submit_now_bare u (submit_fault s u c) (fresh_apt s good u c can.is is) _)
   now_bare (deed.Unlink u) a e near = subst (λ a. AreBare s (entries (deed.Unlink u) a f.down)) (told_of _ a e) (tt, tt)
   now_bare (deed.Unpoison u) a e near = subst (λ a. AreBare s (entries (deed.Unpoison u) a f.down)) (told_of _ a e) (tt, tt)
   now_bare (deed.Block u) a e near = subst (λ a. AreBare s (entries (deed.Block u) a f.down)) (told_of _ a e) (tt, tt)

@@ -25,11 +25,11 @@ use Rattle.usb_prepare.specs.Layout.{urb_count, home}
 use Rattle.usb_line.specs.Prepared.{machine_of}
 use Rattle.usb_line.specs.Line.{Progress, replies_had}
 use Rattle.usb_line.specs.Shows.{IsMoving, HoldsTransfer, Shows}
-use Rattle.usb_line.specs.Back.{CanNote}
+use Rattle.usb_line.specs.Back.{CanNote, CanAsk}
 use Rattle.usb_line.proofs.Homes.{home_shape}
 use Rattle.usb_prepare.proofs.Facts.{home_near}
-use Rattle.usb_line.proofs.Lookups.{set_read}
-use Rattle.usb_line.proofs.Cores.{row_core}
+use Rattle.usb_line.proofs.Lookups.{each_set, set_read}
+use Rattle.usb_line.proofs.Cores.{row_core, row_asks}
 use Rattle.usb_line.proofs.Scanning.{pending_known}
 
 -- an endpoint that takes a transfer has packets of some size
@@ -96,6 +96,7 @@ pub record CanBring (mid : LineRun) (u : ℕ) : Type 0 where
   pub there : u < length mid.urbs.items
   pub home : (row : UrbRow) → slice_get mid.urbs.items u ≡ Some row → row.home < length mid.ends.items
   pub core : (row : UrbRow) → slice_get mid.urbs.items u ≡ Some row → CanNote mid.cores.items row.owner
+  pub asks : (row : UrbRow) → slice_get mid.urbs.items u ≡ Some row → CanAsk mid row.owner
 
 pub can_bring : (s : Scene) (f : Progress) (run mid : LineRun) (old : Shows s f run) → IsWellFormed s → (u : ℕ) (row : UrbRow) → slice_get run.urbs.items u ≡ Some row
     → mid.urbs.items ≡ slice_set run.urbs.items u (record row { transfer = None }) → length mid.ends.items ≡ length run.ends.items → mid.plain ≡ run.plain → mid.cores ≡ run.cores → CanBring mid u
@@ -111,4 +112,13 @@ can_bring s f run mid old good u row at rows ends plain cores =
       home = λ x is. (let same = ap (λ (x : UrbRow). x.home) (set_read run.urbs.items mid.urbs.items u (record row { transfer = None }) x rows is) in omega arith);
       core = λ x is. (let same = ap (λ (x : UrbRow). x.owner) (set_read run.urbs.items mid.urbs.items u (record row { transfer = None }) x rows is) in
           subst (λ (o : Option Owner). CanNote mid.cores.items o) (sym same) (subst (λ (l : List Core). CanNote l row.owner) (λ i. (sym cores i).items) (row_core s f run old u row at)));
+      asks = λ x is. (let same = ap (λ (x : UrbRow). x.owner) (set_read run.urbs.items mid.urbs.items u (record row { transfer = None }) x rows is) in
+          subst (CanAsk mid) (sym same) (λ urb has.
+          let a = row_asks s good f run old u row at urb has in (
+            subst (λ n. urb.0 < n) (sym (long_mid ∙ long)) a.0,
+            subst (λ n. urb.0 < n) (sym here) a.1,
+            λ y there. subst (λ n. y.home < n) (sym ends)
+                (each_set (λ v (z : UrbRow). z.home < length run.ends.items) (λ v (z : UrbRow). z.home < length run.ends.items) run.urbs.items mid.urbs.items u (record row { transfer = None }) rows
+                (λ v z at. row_home s f run old good v z at) (row_home s f run old good u row at) (λ v z off l. l) urb.0 y there),
+          )));
     }

@@ -1,5 +1,5 @@
 -- What main's submits of the drivers' reads find, and what they leave.
-use Rattle.std.proofs.Common.{ℕ, zero, suc, ◌≡◌, ◌≢◌, ◌+◌, ◌<◌, ◌≤◌, Bool, true, false, cond, replicate, Option, Some, None, List, [], ◌∷◌, ◌++◌, length, refl, sym, ap, ◌∙◌, subst, arith, append-nil, add-one}
+use Rattle.std.proofs.Common.{ℕ, zero, suc, ◌≡◌, ◌+◌, ◌<◌, ◌≤◌, Bool, true, false, cond, replicate, Option, Some, None, List, [], ◌++◌, length, refl, sym, ap, ◌∙◌, subst, arith, append-nil, add-one}
 use Rattle.std.specs.Prelude.{count_by, slice_get, option_map}
 use Rattle.std.specs.List.{flat_map}
 use Rattle.std.proofs.lemmas.List.{flat_map_more, length-replicate}
@@ -7,14 +7,8 @@ use Rattle.std.proofs.lemmas.List.Sums.{sum_by_push, count_by-le-length}
 use Rattle.usb_types.specs.declared.errno.Errno.{Errno}
 use Rattle.usb_types.specs.declared.errno.Code.{Code}
 use Rattle.usb_types.specs.declared.errno.Code.TheVariants.{Zero}
-use Rattle.usb_types.specs.declared.urb.Role.{Role}
-use Rattle.usb_types.specs.declared.urb.Role.TheVariants.{In}
-use Rattle.usb_bind.specs.declared.row.Driver.{Driver}
-use Rattle.usb_bind.specs.declared.row.Driver.TheVariants.{Keyboard}
-use Rattle.usb_class.specs.Roles.{read_size}
 use Rattle.usb_machine.specs.declared.transfer.Transfer.{Transfer}
 use Rattle.usb_machine.specs.declared.entry.Entry.{Entry}
-use Rattle.usb_machine.specs.declared.state.UrbState.{UrbState}
 use Rattle.usb_machine.specs.declared.layout.Shape.{Shape}
 use Rattle.usb_machine.specs.State.{refusal}
 use Rattle.usb_machine.specs.Shapes.{HasWindow, Accepts, shape_fault}
@@ -22,10 +16,9 @@ use Rattle.usb_machine.specs.History.{state_of}
 use Rattle.usb_machine.specs.Plain.{urbs_of as count_of}
 use Rattle.usb_machine.specs.Calls.{submit_entries}
 use Rattle.usb_scene.specs.declared.scene.Scene.{Scene}
-use Rattle.usb_scene.specs.WellFormed.{IsWellFormed}
 use Rattle.usb_prepare.specs.Below.{below}
 use Rattle.usb_prepare.specs.Ends.{shape_at, shapes_of}
-use Rattle.usb_prepare.specs.Layout.{urb_count, home}
+use Rattle.usb_prepare.specs.Layout.{home}
 use Rattle.usb_prepare.proofs.Below.{length-below}
 use Rattle.usb_prepare.proofs.Facts.{home_near}
 use Rattle.usb_line.specs.declared.owner.Owner.{Owner}
@@ -41,6 +34,7 @@ use Rattle.usb_line.proofs.Entries.{AreAbout, other_state}
 use Rattle.usb_line.proofs.Submits.{submit_about}
 use Rattle.usb_line.proofs.Homes.{has_home, home_shape}
 use Rattle.usb_line.proofs.Killing.{plain_urbs}
+use Rattle.usb_line.proofs.Owners.{owner_size}
 use Rattle.usb_line.proofs.Apt.{bare_apt}
 
 -- the entries of a read are about its URB
@@ -85,16 +79,16 @@ few_more true n is = omega arith
 few_more false n is = omega arith
 
 -- what is read
-of_read : (number : ℕ) (driver : Driver) (role : Role) (t : Transfer) → option_map (reading number) (read_size driver role) ≡ Some t → t ≡ reading number 8
-of_read number Keyboard In t is = let same : reading number 8 ≡ t = cc in sym same
-of_read number driver role t is = cc
+of_read : (number : ℕ) (size : Option ℕ) (t : Transfer) → option_map (reading number) size ≡ Some t → (n : ℕ) × (size ≡ Some n) × (t ≡ reading number n)
+of_read number None t is = cc
+of_read number (Some n) t is = let same : reading number n ≡ t = cc in (n, refl, sym same)
 
-read_parts : (o : Option Owner) (number : ℕ) (t : Transfer) → read_by o number ≡ Some t → (w : Owner) × (o ≡ Some w) × (t ≡ reading number 8)
+pub read_parts : (o : Option Owner) (number : ℕ) (t : Transfer) → read_by o number ≡ Some t → (w : Owner) × (n : ℕ) × (o ≡ Some w) × (w.size ≡ Some n) × (t ≡ reading number n)
 read_parts None number t is = cc
-read_parts (Some w) number t is = (w, refl, of_read number w.driver w.role t is)
+read_parts (Some w) number t is = let of = of_read number w.size t is in (w, of.0, refl, of.1, of.2)
 
-reading_window : (number : ℕ) → HasWindow (reading number 8)
-reading_window number = let long : length (replicate {A = ℕ} 8 0) ≡ 8 = length-replicate {A = ℕ} 8 0 in record { window = omega arith; buffer = omega arith; within = omega arith }
+pub reading_window : (number n : ℕ) → n < 4096 → HasWindow (reading number n)
+reading_window number n few = let long : length (replicate {A = ℕ} n 0) ≡ n = length-replicate {A = ℕ} n 0 in record { window = omega arith; buffer = omega arith; within = omega arith }
 
 module _ (s : Scene) (run : LineRun) (p u : ℕ) (o : Option Owner) (number : ℕ) (may : MayRead s run p u o number) where
   pub row_near : u < length run.urbs.items
@@ -129,12 +123,12 @@ module _ (s : Scene) (run : LineRun) (p u : ℕ) (o : Option Owner) (number : �
           let parts = read_parts o number t (sym is) in
           record {
             shows = may.shows;
-            apt = bare_apt s may.good u parts.0 (sym may.owned ∙ parts.1) t (ap (λ (t : Transfer). t.setup) parts.2) none;
+            apt = bare_apt s may.good u parts.0 (sym may.owned ∙ parts.2) t (ap (λ (t : Transfer). t.setup) parts.4) none;
             ask = record {
               there = (let pass = may.pass in omega arith);
               has = has_home s may.good u may.near;
-              window = subst HasWindow (sym parts.2) (reading_window number);
-              unmoved = ap (λ (t : Transfer). t.actual) parts.2;
+              window = subst HasWindow (sym parts.4) (reading_window number parts.1 (owner_size s u parts.0 parts.1 (sym may.owned ∙ parts.2) parts.3));
+              unmoved = ap (λ (t : Transfer). t.actual) parts.4;
               taken = subst (λ (x : Option Shape). Accepts x t) (sym (home_shape s may.good u may.near)) none;
             };
           }

@@ -1,15 +1,13 @@
 -- Main's first entries: each read of a driver that its endpoint takes is accepted, since nothing came before it but reads of
 -- other URBs.
-use Rattle.std.proofs.Common.{ℕ, zero, suc, ◌≡◌, ◌≢◌, ◌<◌, ◌≤◌, replicate, Option, Some, None, List, [], ◌∷◌, ◌++◌, length, refl, sym, ap, ◌∙◌, subst, arith, append-nil}
-use Rattle.std.specs.Prelude.{slice_get, option_map}
+use Rattle.std.proofs.Common.{ℕ, zero, suc, ◌≡◌, ◌≢◌, ◌<◌, ◌≤◌, Option, Some, None, List, [], ◌∷◌, ◌++◌, refl, sym, ap, ◌∙◌, subst, arith, append-nil}
+use Rattle.std.specs.Prelude.{slice_get}
 use Rattle.std.specs.List.{flat_map}
 use Rattle.std.proofs.lemmas.List.Elements.{All-nil}
 use Rattle.std.proofs.lemmas.Grind.{flat_map-append}
 use Rattle.usb_types.specs.declared.errno.Errno.{Errno}
 use Rattle.usb_types.specs.declared.errno.Code.{Code}
 use Rattle.usb_types.specs.declared.errno.Code.TheVariants.{Zero}
-use Rattle.usb_types.specs.declared.urb.Role.{Role}
-use Rattle.usb_types.specs.declared.urb.Role.TheVariants.{In}
 use Rattle.usb_machine.specs.declared.layout.Shape.{Shape}
 use Rattle.usb_machine.specs.declared.transfer.Transfer.{Transfer}
 use Rattle.usb_machine.specs.declared.entry.Entry.{Entry}
@@ -18,19 +16,18 @@ use Rattle.usb_machine.specs.State.{refusal}
 use Rattle.usb_machine.specs.History.{state_of}
 use Rattle.usb_machine.specs.Legal.{empty}
 use Rattle.usb_machine.specs.Calls.{submit_entries}
-use Rattle.usb_bind.specs.declared.row.Driver.{Driver}
-use Rattle.usb_bind.specs.declared.row.Driver.TheVariants.{Keyboard}
-use Rattle.usb_class.specs.Roles.{read_size}
 use Rattle.usb_scene.specs.declared.scene.Scene.{Scene}
 use Rattle.usb_scene.specs.WellFormed.{IsWellFormed}
 use Rattle.usb_prepare.specs.Below.{below}
 use Rattle.usb_prepare.specs.Ends.{shapes_of, shape_at}
 use Rattle.usb_prepare.specs.Layout.{urb_count, home}
 use Rattle.usb_line.specs.declared.owner.Owner.{Owner}
-use Rattle.usb_line.specs.Prepared.{machine_of, owner_of, number_of, reading, read_by, read_of, main_pass}
+use Rattle.usb_line.specs.Prepared.{machine_of, owner_of, number_of, reading, read_of, main_pass}
 use Rattle.usb_line.specs.Between.{IsBare}
 use Rattle.usb_line.specs.Run.{submit_of, read_entries_by, read_entries, opening}
 use Rattle.usb_line.specs.Line.{at_start, begun}
+use Rattle.usb_line.proofs.Owners.{owner_size}
+use Rattle.usb_line.proofs.Reading.{read_parts, reading_window}
 use Rattle.usb_line.proofs.Entries.{AreOf, AreOf-append, AreAbout, other_state, AllFollow, AllFollow-append}
 use Rattle.usb_line.proofs.Homes.{has_home, home_shape}
 use Rattle.usb_line.proofs.Submits.{submit_about, submit_pass, submit_follow}
@@ -40,22 +37,6 @@ use Rattle.usb_line.proofs.Serving.{AreBare, AreBare-append, submit_bare, Serves
 use Rattle.usb_line.proofs.Others.{others_serve}
 use Rattle.usb_line.proofs.Held.{AreNoReject, AreNoReject-append}
 use Rattle.usb_line.proofs.Passes.{main_not_server, main_is_pass}
-
--- the reads that drivers keep are of eight bytes
-size_by : (driver : Driver) (role : Role) (size : ℕ) → read_size driver role ≡ Some size → size ≡ 8
-size_by Keyboard In size is = cc
-size_by driver role size is = absurd cc
-
-pub read_is : (o : Option Owner) (number : ℕ) (t : Transfer) → read_by o number ≡ Some t → t ≡ reading number 8
-read_is None number t is = absurd cc
-read_is (Some o) number t is = go (read_size o.driver o.role) refl is
-  where
-    go : (size : Option ℕ) → read_size o.driver o.role ≡ size → option_map (reading number) size ≡ Some t → t ≡ reading number 8
-    go None e f = absurd cc
-    go (Some size) e f = let same : reading number size ≡ t = cc in sym same ∙ ap (reading number) (size_by o.driver o.role size e)
-
-reading_window : (number : ℕ) → HasWindow (reading number 8)
-reading_window number = let long : length (replicate {A = ℕ} 8 0) ≡ 8 = refl in record { window = omega arith; buffer = omega arith; within = omega arith }
 
 -- this is the read of URB u, and its home takes it
 pub record IsRead (s : Scene) (u : ℕ) (t : Transfer) : Type 0 where
@@ -76,12 +57,15 @@ module _ (s : Scene) where
           at (Some e) takes = nothing
 
   module _ (u : ℕ) (t : Transfer) (read : IsRead s u t) where
-    same : t ≡ reading (number_of s u) 8
-    same = read_is (owner_of s u) (number_of s u) t read.is
+    parts : (w : Owner) × (n : ℕ) × (owner_of s u ≡ Some w) × (w.size ≡ Some n) × (t ≡ reading (number_of s u) n)
+    parts = read_parts (owner_of s u) (number_of s u) t read.is
+
+    same : t ≡ reading (number_of s u) parts.1
+    same = parts.4
 
     -- a read has its window, moved nothing, and has no setup packet
     pub read_window : HasWindow t
-    read_window = subst HasWindow (sym same) (reading_window (number_of s u))
+    read_window = subst HasWindow (sym same) (reading_window (number_of s u) parts.1 (owner_size s u parts.0 parts.1 parts.2 parts.3))
 
     pub read_unmoved : t.actual ≡ 0
     read_unmoved = ap (λ (t : Transfer). t.actual) same

@@ -15,7 +15,7 @@ use Rattle.usb_xfer.specs.Moved.{moved, question_by, question_of}
 use Rattle.usb_xfer.proofs.Windows.{moved_window}
 use Rattle.usb_device.specs.Laws.{sets_halt}
 use Rattle.usb_class.specs.Handler.{action_of, goes_again, window_by}
-use Rattle.usb_class.proofs.Facts.{again_bare, window_kept}
+use Rattle.usb_class.proofs.Facts.{again_packets, window_kept}
 use Rattle.usb_scene.specs.declared.scene.Scene.{Scene}
 use Rattle.usb_prepare.specs.Ends.{shape_at}
 use Rattle.usb_prepare.specs.Layout.{home}
@@ -88,7 +88,7 @@ resent_fits (Some o) shape start t status takes bare has setup len = (window_kep
     go : (action : Action) → action_of o.driver o.role status t ≡ action → shape_fault shape (window_by action t) ≡ None
     go Rest e = same_takes shape start t status takes setup (window_by Rest t) refl len
     go Ask e = same_takes shape start t status takes setup (window_by Ask t) refl len
-    go (Again from size) e = bare_takes shape start t status takes setup (window_by (Again from size) t) refl (bare (again_bare o.driver o.role status t from size e).0)
+    go (Again from size) e = bare_takes shape start t status takes setup (window_by (Again from size) t) refl (bare (again_packets o.driver o.role status t from size e))
 
 -- the same of what came back of a transfer that was sent
 pub moved_fits : (o : Option Owner) (home : Option Shape) (shape : Shape) (start : Transfer) (replies : List Reply) (status : Code) → Accepts home start → IsBare o start.setup → HasWindow start

@@ -6,15 +6,18 @@ use Rattle.std.proofs.lemmas.List.Elements.{filter-append, All-push}
 use Rattle.std.proofs.lemmas.Grind.{flat_map-append}
 use mathlib.Core.Logic.{dite}
 use native.Mathlib.Decide.{ℕ_discrete}
+use Rattle.usb_types.specs.declared.errno.Code.{Code}
 use Rattle.usb_types.specs.declared.errno.Code.TheVariants.{Zero, Fault}
 use Rattle.usb_machine.specs.declared.entry.TheConstants.{SERVER}
-use Rattle.usb_machine.specs.declared.event.Event.TheVariants.{Finish, End}
+use Rattle.usb_machine.specs.declared.event.Event.TheVariants.{Finish, Give, End}
 use Rattle.usb_machine.specs.declared.event.Answer.TheVariants.{Truth, Code as Status}
 use Rattle.usb_machine.specs.declared.transfer.Transfer.{Transfer}
 use Rattle.usb_machine.specs.declared.entry.Entry.{Entry}
 use Rattle.usb_machine.specs.History.{Episode, episodes_after, without, pending_of, sent_of}
 use Rattle.usb_machine.specs.Parts.{part_of}
-use Rattle.usb_machine.specs.Calls.{entry, plain_entry}
+use Rattle.usb_machine.specs.Calls.{entry, plain_entry, submit_entries}
+use Rattle.usb_machine.specs.Legal.{IsLegal, times}
+use Rattle.usb_machine.proofs.Rooms.{pending_is_queued}
 use Rattle.usb_machine.proofs.Steps.{pending_of-snoc, sent_of-snoc}
 use Rattle.usb_xfer.specs.Replies.{Reply}
 use Rattle.usb_xfer.specs.Moved.{IsWhole}
@@ -23,13 +26,14 @@ use Rattle.usb_line.specs.declared.made.Outcome.{Outcome}
 use Rattle.usb_line.specs.declared.made.Outcome.TheVariants as outcome
 use Rattle.usb_prepare.specs.Ends.{shape_at}
 use Rattle.usb_prepare.specs.Layout.{home}
-use Rattle.usb_line.specs.Prepared.{machine_of, script_of, owner_of}
+use Rattle.usb_line.specs.Prepared.{machine_of, owner_of, Asking, asking_of}
 use Rattle.usb_line.specs.Between.{IsBare}
-use Rattle.usb_line.specs.Run.{Giveback, moved_in, resent, handled_by, given_entries, giveback_entries, episode_of, is_aside, is_first, acts_again, IsGiveback, IsHandled, AreHandled, rounds_at, replies_in, firsts_of, firsts_after, asked_in, asked_of}
+use Rattle.usb_line.specs.Run.{Giveback, moved_in, resent, rest_entry, handled_by, handler_entries, given_entries, giveback_entries, episode_of, is_aside, is_first, acts, IsGiveback, IsHandled, AreHandled, rounds_at, replies_in, firsts_of, firsts_after, asked_in, asked_of}
 use Rattle.usb_line.specs.Line.{Progress, with_at, given_back, asks}
 use Rattle.usb_line.specs.Due.{next_due}
 use Rattle.usb_line.proofs.Entries.{grows, legal_after}
-use Rattle.usb_line.proofs.Givebacks.{CanGive, resubmits, giveback_follow, giveback_pass, giveback_pending, giveback_sent}
+use Rattle.usb_line.proofs.MayFollow.{once}
+use Rattle.usb_line.proofs.Givebacks.{CanGive, resubmits, asked_each, IsApart, posed, put, queued_apart, giveback_follow, giveback_pass, giveback_pending, giveback_sent, giveback_posed_sent}
 use Rattle.usb_line.proofs.Calm.{calm_giveback}
 use Rattle.usb_line.proofs.Marked.{first_at_home}
 use Rattle.usb_line.proofs.Dues.{due-append}
@@ -44,9 +48,9 @@ AreFirstGiven-push [] (c ∷ bs) r b all one = absurd all
 AreFirstGiven-push (q ∷ rounds) [] r b all one = absurd all
 AreFirstGiven-push (q ∷ rounds) (c ∷ bs) r b all one = (all.0, AreFirstGiven-push rounds bs r b all.1 one)
 
-AreHandled-push : (s : Scene) (before rounds : List Giveback) (r : Giveback) → AreHandled s before rounds → IsHandled (acts_again s (before ++ rounds) r.urb r.status (moved_in s r)) r.outcome → AreHandled s before (rounds ++ r ∷ [])
-AreHandled-push s before [] r all one = (subst (λ l. IsHandled (acts_again s l r.urb r.status (moved_in s r)) r.outcome) (append-nil before) one, tt)
-AreHandled-push s before (q ∷ rounds) r all one = (all.0, AreHandled-push s (before ++ q ∷ []) rounds r all.1 (subst (λ l. IsHandled (acts_again s l r.urb r.status (moved_in s r)) r.outcome) (sym (append_assoc before (q ∷ []) rounds)) one))
+AreHandled-push : (s : Scene) (before rounds : List Giveback) (r : Giveback) → AreHandled s before rounds → IsHandled (acts s (before ++ rounds) r.urb r.status (moved_in s r)) r.outcome → AreHandled s before (rounds ++ r ∷ [])
+AreHandled-push s before [] r all one = (subst (λ l. IsHandled (acts s l r.urb r.status (moved_in s r)) r.outcome) (append-nil before) one, tt)
+AreHandled-push s before (q ∷ rounds) r all one = (all.0, AreHandled-push s (before ++ q ∷ []) rounds r all.1 (subst (λ l. IsHandled (acts s l r.urb r.status (moved_in s r)) r.outcome) (sym (append_assoc before (q ∷ []) rounds)) one))
 
 module _ (s : Scene) (f : Progress) (r : Giveback) where
   abbrev h : List Entry
@@ -64,12 +68,30 @@ module _ (s : Scene) (f : Progress) (r : Giveback) where
     pub can : CanGive s h r
     pub sent : sent_of h r.urb ≡ Some r.sent
     pub giveback : IsGiveback s r
-    pub handled : IsHandled (acts_again s f.rounds r.urb r.status (moved_in s r)) r.outcome
+    pub handled : IsHandled (acts s f.rounds r.urb r.status (moved_in s r)) r.outcome
     pub first : 0 < length r.replies → is_first r.urb pending ≡ true
     pub replies : r.replies ≡ next_due s (home s r.urb) (asked_of s (home s r.urb) f.rounds) (asked_in s r)
 
+  abbrev finish_first : Entry
+  finish_first = entry SERVER (Finish record { 0 = r.urb } r.status) (Truth true) None
+
+  abbrev give_next : Entry
+  give_next = entry SERVER (Give record { 0 = r.urb }) (Status r.status) None
+
+  -- behind the Give of an URB there are only what its handler does, and its End
+  handler_episodes : (m : List Entry) (o : Outcome) → episodes_after m (handled_by s r.urb (moved_in s r) (resent s r) (asking_of s r.urb) o ++ plain_entry SERVER (End record { 0 = r.urb }) ∷ []) ≡ []
+  handler_episodes m outcome.Rest = refl
+  handler_episodes m (outcome.Again Zero) = refl
+  handler_episodes m (outcome.Again (Fault e)) = refl
+  handler_episodes m (outcome.Asked c) =
+      asked_each s (λ xs. (m : List Entry) → episodes_after m (xs ++ plain_entry SERVER (End record { 0 = r.urb }) ∷ []) ≡ []) (asking_of s r.urb) c (λ m. refl) (λ a is none. some a c) (m ++ rest_entry r.urb (moved_in s r) ∷ [])
+    where
+      some : (a : Asking) (c : Code) (m : List Entry) → episodes_after m (submit_entries SERVER a.urb a.transfer c ++ plain_entry SERVER (End record { 0 = r.urb }) ∷ []) ≡ []
+      some a Zero m = refl
+      some a (Fault e) m = refl
+
   giveback_ends : sent_of h r.urb ≡ Some r.sent → episodes_after h (giveback_entries s r) ≡ episode_of r ∷ []
-  giveback_ends sent = go r.finished r.outcome
+  giveback_ends sent = go r.finished
     where
       the_episode : Option Transfer → Episode
       the_episode t = record { urb = r.urb; status = Status r.status; transfer = t }
@@ -77,38 +99,48 @@ module _ (s : Scene) (f : Progress) (r : Giveback) where
       late : sent_of (h ++ entry SERVER (Finish record { 0 = r.urb } r.status) (Truth true) None ∷ []) r.urb ≡ sent_of h r.urb
       late = sent_of-snoc h (entry SERVER (Finish record { 0 = r.urb } r.status) (Truth true) None) r.urb
 
-      go : (b : Bool) (o : Outcome) → episodes_after h (given_entries r.urb r.status b ++ (handled_by r.urb (moved_in s r) (resent s r) o ++ plain_entry SERVER (End record { 0 = r.urb }) ∷ [])) ≡ episode_of r ∷ []
-      go true outcome.Rest = ap (λ t. the_episode t ∷ []) (late ∙ sent)
-      go false outcome.Rest = ap (λ t. the_episode t ∷ []) sent
-      go true (outcome.Again Zero) = ap (λ t. the_episode t ∷ []) (late ∙ sent)
-      go false (outcome.Again Zero) = ap (λ t. the_episode t ∷ []) sent
-      go true (outcome.Again (Fault e)) = ap (λ t. the_episode t ∷ []) (late ∙ sent)
-      go false (outcome.Again (Fault e)) = ap (λ t. the_episode t ∷ []) sent
+      go : (b : Bool) → episodes_after h (given_entries r.urb r.status b ++ handler_entries s r) ≡ episode_of r ∷ []
+      go true = (λ i. the_episode ((late ∙ sent) i) ∷ handler_episodes ((h ++ finish_first ∷ []) ++ give_next ∷ []) r.outcome i)
+      go false = (λ i. the_episode (sent i) ∷ handler_episodes (h ++ give_next ∷ []) r.outcome i)
+
+  handler_firsts : (m : List Entry) (o : Outcome) → firsts_after (machine_of s) m (handled_by s r.urb (moved_in s r) (resent s r) (asking_of s r.urb) o ++ plain_entry SERVER (End record { 0 = r.urb }) ∷ []) ≡ []
+  handler_firsts m outcome.Rest = refl
+  handler_firsts m (outcome.Again Zero) = refl
+  handler_firsts m (outcome.Again (Fault e)) = refl
+  handler_firsts m (outcome.Asked c) =
+      asked_each s (λ xs. (m : List Entry) → firsts_after (machine_of s) m (xs ++ plain_entry SERVER (End record { 0 = r.urb }) ∷ []) ≡ []) (asking_of s r.urb) c (λ m. refl) (λ a is none. some a c) (m ++ rest_entry r.urb (moved_in s r) ∷ [])
+    where
+      some : (a : Asking) (c : Code) (m : List Entry) → firsts_after (machine_of s) m (submit_entries SERVER a.urb a.transfer c ++ plain_entry SERVER (End record { 0 = r.urb }) ∷ []) ≡ []
+      some a Zero m = refl
+      some a (Fault e) m = refl
 
   giveback_firsts : firsts_after (machine_of s) h (giveback_entries s r) ≡ is_first r.urb pending ∷ []
-  giveback_firsts = go r.finished r.outcome
+  giveback_firsts = go r.finished
     where
       late : pending_of (machine_of s) (h ++ entry SERVER (Finish record { 0 = r.urb } r.status) (Truth true) None ∷ []) (home s r.urb) ≡ pending
       late = pending_of-snoc h (entry SERVER (Finish record { 0 = r.urb } r.status) (Truth true) None) (machine_of s) (home s r.urb)
 
-      go : (b : Bool) (o : Outcome) → firsts_after (machine_of s) h (given_entries r.urb r.status b ++ (handled_by r.urb (moved_in s r) (resent s r) o ++ plain_entry SERVER (End record { 0 = r.urb }) ∷ [])) ≡ is_first r.urb pending ∷ []
-      go true outcome.Rest = ap (λ us. is_first r.urb us ∷ []) late
-      go false outcome.Rest = refl
-      go true (outcome.Again Zero) = ap (λ us. is_first r.urb us ∷ []) late
-      go false (outcome.Again Zero) = refl
-      go true (outcome.Again (Fault e)) = ap (λ us. is_first r.urb us ∷ []) late
-      go false (outcome.Again (Fault e)) = refl
+      go : (b : Bool) → firsts_after (machine_of s) h (given_entries r.urb r.status b ++ handler_entries s r) ≡ is_first r.urb pending ∷ []
+      go true = (λ i. is_first r.urb (late i) ∷ handler_firsts ((h ++ finish_first ∷ []) ++ give_next ∷ []) r.outcome i)
+      go false = (λ i. is_first r.urb pending ∷ handler_firsts (h ++ give_next ∷ []) r.outcome i)
+
+  handler_served : (o : Outcome) → let xs = handled_by s r.urb (moved_in s r) (resent s r) (asking_of s r.urb) o ++ plain_entry SERVER (End record { 0 = r.urb }) ∷ [] in served xs ≡ xs
+  handler_served outcome.Rest = refl
+  handler_served (outcome.Again Zero) = refl
+  handler_served (outcome.Again (Fault e)) = refl
+  handler_served (outcome.Asked c) = ap (λ xs. rest_entry r.urb (moved_in s r) ∷ xs)
+      (asked_each s (λ xs. served (xs ++ plain_entry SERVER (End record { 0 = r.urb }) ∷ []) ≡ xs ++ plain_entry SERVER (End record { 0 = r.urb }) ∷ []) (asking_of s r.urb) c refl (λ a is none. some a c))
+    where
+      some : (a : Asking) (c : Code) → let xs = submit_entries SERVER a.urb a.transfer c ++ plain_entry SERVER (End record { 0 = r.urb }) ∷ [] in served xs ≡ xs
+      some a Zero = refl
+      some a (Fault e) = refl
 
   giveback_served : served (giveback_entries s r) ≡ giveback_entries s r
-  giveback_served = go r.finished r.outcome
+  giveback_served = go r.finished
     where
-      go : (b : Bool) (o : Outcome) → let xs = given_entries r.urb r.status b ++ (handled_by r.urb (moved_in s r) (resent s r) o ++ plain_entry SERVER (End record { 0 = r.urb }) ∷ []) in served xs ≡ xs
-      go true outcome.Rest = refl
-      go false outcome.Rest = refl
-      go true (outcome.Again Zero) = refl
-      go false (outcome.Again Zero) = refl
-      go true (outcome.Again (Fault e)) = refl
-      go false (outcome.Again (Fault e)) = refl
+      go : (b : Bool) → served (given_entries r.urb r.status b ++ handler_entries s r) ≡ given_entries r.urb r.status b ++ handler_entries s r
+      go true = ap (λ xs. given_entries r.urb r.status true ++ xs) (handler_served r.outcome)
+      go false = ap (λ xs. given_entries r.urb r.status false ++ xs) (handler_served r.outcome)
 
   -- what the endpoints keep
   pub left_at : (e : ℕ) → home s r.urb ≡ e → (given_back s f r).so_far e ≡ left
@@ -132,8 +164,8 @@ module _ (s : Scene) (f : Progress) (r : Giveback) where
   pub rounds-push : (e : ℕ) → rounds_at s e g.rounds ≡ rounds_at s e f.rounds ++ cond (eqb (home s r.urb) e) (r ∷ []) []
   rounds-push e = filter-append (λ (r : Giveback). eqb (home s r.urb) e) f.rounds (r ∷ [])
 
-  pub still_sent : (v : ℕ) → v ≢ r.urb → sent_of g.history v ≡ sent_of h v
-  still_sent v off = giveback_sent s h r v ∙ ap (λ b. cond (b && resubmits r.outcome) (Some (resent s r)) (sent_of h v)) (ne_eqb r.urb v (λ i. off (sym i)))
+  pub still_sent : (v : ℕ) → v ≢ r.urb → IsApart v (posed s r) → sent_of g.history v ≡ sent_of h v
+  still_sent v off apart = giveback_sent s h r v apart ∙ ap (λ b. cond (b && resubmits r.outcome) (Some (resent s r)) (sent_of h v)) (ne_eqb r.urb v (λ i. off (sym i)))
 
   -- what its endpoint was asked is behind it
   pub asked_own : (e : ℕ) → home s r.urb ≡ e → asked_of s e g.rounds ≡ asked_of s e f.rounds ++ asked_in s r
@@ -146,6 +178,12 @@ module _ (s : Scene) (f : Progress) (r : Giveback) where
   -- one without replies asked nothing
   pub asked_none : (e : ℕ) → home s r.urb ≡ e → r.replies ≡ [] → asked_of s e g.rounds ≡ asked_of s e f.rounds
   asked_none e is none = asked_own e is ∙ (ap (λ (l : List Reply). asked_of s e f.rounds ++ asks s (home s r.urb) r.sent (length l)) none ∙ append-nil (asked_of s e f.rounds))
+
+  -- what is first pending at an endpoint is no question that is asked
+  pub first_apart : CanGive s h r → IsLegal (machine_of s) h → (e u : ℕ) (others : List ℕ) → pending_of (machine_of s) h e ≡ u ∷ others → IsApart u (posed s r)
+  first_apart can legal e u others first = queued_apart s h r can.asks can.gated u
+      (pending_is_queued (machine_of s) h u legal (subst (λ d. 0 < times u (pending_of (machine_of s) h d)) (first_at_home (machine_of s) h e u others legal first)
+      (subst (λ us. 0 < times u us) (sym first) (once u (u ∷ others) others refl))))
 
   module _ (ready : CanReturn) (old : Serves s f) where
     back_replies : (e : ℕ) → replies_in (rounds_at s e g.rounds) ≡ next_due s e [] (asked_of s e g.rounds)
@@ -189,10 +227,10 @@ module _ (s : Scene) (f : Progress) (r : Giveback) where
         record {
           none = λ p. (let x = sym first ∙ p in cc);
           whole = λ u others t p q. (let x = sym p ∙ first in let urb : u ≡ v = cc in
-              subst (λ l. IsWhole (shape_at s (home s r.urb)) t l) (sym keep) ((old.moving (home s r.urb)).whole v us t is (sym (still_sent v off) ∙ (ap (sent_of g.history) (sym urb) ∙ q))));
+              subst (λ l. IsWhole (shape_at s (home s r.urb)) t l) (sym keep) ((old.moving (home s r.urb)).whole v us t is (sym (still_sent v off (first_apart ready.can old.legal (home s r.urb) v us is)) ∙ (ap (sent_of g.history) (sym urb) ∙ q))));
           due = λ u others t p q. (let x = sym p ∙ first in let urb : u ≡ v = cc in
               let rounds = asked_none (home s r.urb) refl (no_replies (ap (is_first r.urb) is ∙ ne_eqb v r.urb off)) in
-              keep ∙ ((old.moving (home s r.urb)).due v us t is (sym (still_sent v off) ∙ (ap (sent_of g.history) (sym urb) ∙ q))
+              keep ∙ ((old.moving (home s r.urb)).due v us t is (sym (still_sent v off (first_apart ready.can old.legal (home s r.urb) v us is)) ∙ (ap (sent_of g.history) (sym urb) ∙ q))
               ∙ (λ i. next_due s (home s r.urb) (sym rounds i) (asks s (home s r.urb) t (length (sym keep i))))));
         })
 
@@ -207,17 +245,17 @@ module _ (s : Scene) (f : Progress) (r : Giveback) where
           whole = λ u others t p q.
               (let first = sym same ∙ p in
               let apart : u ≢ r.urb = λ i. off (ap (home s) (sym i) ∙ sym (first_at_home (machine_of s) h e u others old.legal first)) in
-              subst (λ l. IsWhole (shape_at s e) t l) (sym (left_else e off)) ((old.moving e).whole u others t first (sym (still_sent u apart) ∙ q)));
+              subst (λ l. IsWhole (shape_at s e) t l) (sym (left_else e off)) ((old.moving e).whole u others t first (sym (still_sent u apart (first_apart ready.can old.legal e u others first)) ∙ q)));
           due = λ u others t p q.
               (let first = sym same ∙ p in
               let apart : u ≢ r.urb = λ i. off (ap (home s) (sym i) ∙ sym (first_at_home (machine_of s) h e u others old.legal first)) in
-              left_else e off ∙ ((old.moving e).due u others t first (sym (still_sent u apart) ∙ q)
+              left_else e off ∙ ((old.moving e).due u others t first (sym (still_sent u apart (first_apart ready.can old.legal e u others first)) ∙ q)
               ∙ (λ i. next_due s e (sym (asked_else e off) i) (asks s e t (length (sym (left_else e off) i))))));
         })
 
     -- what is sent again has the setup packet of what was sent
     back_bare : (v : ℕ) → SentBare s v (sent_of g.history v)
-    back_bare v = subst (SentBare s v) (sym (giveback_sent s h r v)) (go (eqb r.urb v) refl (resubmits r.outcome))
+    back_bare v = by_posed (posed s r) refl
       where
         again : IsBare (owner_of s r.urb) (resent s r).setup
         again = subst (IsBare (owner_of s r.urb)) (sym (resent_setup (owner_of s r.urb) r.status (moved_in s r) ∙ (moved_same (shape_at s (home s r.urb)) r.sent r.replies).setup))
@@ -228,10 +266,21 @@ module _ (s : Scene) (f : Progress) (r : Giveback) where
         go true is false = old.bare v
         go false is b = old.bare v
 
+        apart : IsApart v (posed s r) → SentBare s v (sent_of g.history v)
+        apart off = subst (SentBare s v) (sym (giveback_sent s h r v off)) (go (eqb r.urb v) refl (resubmits r.outcome))
+
+        by_posed : (o : Option Asking) → posed s r ≡ o → SentBare s v (sent_of g.history v)
+        by_posed None is = apart (subst (IsApart v) (sym is) tt)
+        by_posed (Some a) is = dite (ℕ_discrete v a.urb)
+            (λ same.
+            let p = put s h r ready.can.asks ready.can.gated a is in
+            subst (λ v. SentBare s v (sent_of g.history v)) (sym same) (subst (SentBare s a.urb) (sym (giveback_posed_sent s h r a p.is p.did p.takes p.pose.apart)) p.pose.bare))
+            (λ off. apart (subst (IsApart v) (sym is) off))
+
     pub back_serves : Serves s g
     back_serves = record {
       legal = legal_after (machine_of s) h (giveback_entries s r) old.legal (giveback_follow s h r ready.can);
-      calm = calm_giveback s h r old.calm;
+      calm = calm_giveback s h r ready.can.asks old.calm;
       server = ap served (grows SERVER h (giveback_entries s r) (giveback_pass s h r))
           ∙ (filter-append (λ x. not (is_aside x.event x.answer)) (part_of h SERVER) (giveback_entries s r)
           ∙ ((λ i. old.server i ++ giveback_served i)

@@ -1,5 +1,5 @@
 -- What holds of a run's history, givebacks and replies wherever no block of entries is in the midst, and that takes keep it.
-use Rattle.std.proofs.Common.{ℕ, zero, suc, ◌≡◌, ◌<◌, Bool, true, false, not, cond, eqb, Option, Some, None, List, [], ◌∷◌, ◌++◌, length, map, filter, refl, sym, ap, ◌∙◌, subst, arith, append_assoc, append-nil, length-append, eq-eqb, ne_eqb, ◌+◌}
+use Rattle.std.proofs.Common.{ℕ, zero, suc, ◌≡◌, ◌<◌, Bool, true, false, not, cond, eqb, Option, Some, None, List, [], ◌∷◌, ◌++◌, length, map, filter, refl, sym, ap, ◌∙◌, subst, arith, append-nil, length-append, eq-eqb, ne_eqb, ◌+◌}
 use Rattle.std.specs.List.{flat_map, All}
 use Rattle.std.proofs.lemmas.List.{length-replicate, replicate-append-replicate}
 use Rattle.std.proofs.lemmas.List.Elements.{filter-append}
@@ -21,7 +21,7 @@ use Rattle.usb_xfer.specs.Replies.{Reply, Question}
 use Rattle.usb_xfer.specs.Moved.{IsWhole, question_of}
 use Rattle.usb_scene.specs.declared.scene.Scene.{Scene}
 use Rattle.usb_prepare.specs.Ends.{ends_of, shape_at}
-use Rattle.usb_line.specs.Prepared.{machine_of, script_of, owner_of}
+use Rattle.usb_line.specs.Prepared.{machine_of, owner_of}
 use Rattle.usb_line.specs.Run.{Giveback, giveback_entries, episode_of, is_aside, IsGiveback, AreHandled, rounds_at, replies_in, firsts_of, asked_of}
 use Rattle.usb_line.specs.Between.{IsBare}
 use Rattle.usb_line.specs.Line.{Progress, takes, takes_below, with_takes, had_after, waits, asks, asked_so_far}

@@ -54,7 +54,7 @@ module _ (s : Scene) (f : Progress) (xs : List Entry) (still : AreStill xs) wher
     all_urbs = old.all_urbs;
     each_urb = λ u row at. (let o = old.each_urb u row at in record { at = o.at; owner = o.owner; more = o.more; holds = holds_still u row.transfer o.holds });
     unmoved = λ e none. old.unmoved e (sym (stills_pending f.history xs still (machine_of s) e) ∙ none);
-    cores = record { all = old.cores.all; each = old.cores.each };
+    cores = record { all = old.cores.all; each = old.cores.each; out = old.cores.out };
     came_back = old.came_back;
     host = old.host;
   }
@@ -77,7 +77,7 @@ module _ (s : Scene) (f : Progress) (run : LineRun) (old : Shows s f run) where
     all_urbs = old.all_urbs;
     each_urb = λ u row at. (let o = old.each_urb u row at in record { at = o.at; owner = o.owner; more = o.more; holds = holds_called d u row.transfer o.holds });
     unmoved = old.unmoved;
-    cores = record { all = old.cores.all; each = old.cores.each };
+    cores = record { all = old.cores.all; each = old.cores.each; out = old.cores.out };
     came_back = old.came_back;
     host = is;
   }

@@ -60,7 +60,7 @@ module _ (s : Scene) (f : Progress) (n : ℕ) (run : LineRun) (at : Claimed s f 
         is = record {
           good = at.is.good;
           shows = shows_still s w.far xs (tt, (tt, tt)) now after w.shows (subst (λ (r : Option ℕ). Stands after (machine_of s) (w.far.history ++ claim_entries HUB n r)) told stands);
-          stops = λ v l. stop_claim v HUB n kept w.far.history (stop_waits v s n at.far w.far w.waits (at.is.stops v l));
+          stops = λ v l. stop_claim v HUB n kept w.far.history (stop_waits v s at.is.good n at.far w.far w.waits (at.is.stops v l));
           flagged = λ v l. ap (λ m. (held_of m v).flags.down) (grows HUB w.far.history xs (refl, (refl, tt)))
               ∙ (ap (λ (f : Flags). f.down) (no_flag v (part_of w.far.history HUB) xs (tt, (tt, tt))) ∙ down_then v l);
         };

@@ -1,10 +1,12 @@
 -- An URB whose gate is closed and that was unlinked comes back, and is not queued again.
-use Rattle.std.proofs.Common.{ℕ, ◌≡◌, ◌+◌, ◌<◌, Bool, true, false, cond, eqb, Option, List, [], ◌∷◌, ◌++◌, refl, sym, ap, ◌∙◌, subst, arith, ne_eqb, true≢false}
+use Rattle.std.proofs.Common.{ℕ, ◌≡◌, ◌+◌, ◌<◌, Bool, true, false, cond, eqb, Option, Some, None, List, [], ◌∷◌, ◌++◌, refl, sym, ap, ◌∙◌, subst, arith, ne_eqb, true≢false}
 use mathlib.Core.Logic.{dite}
 use native.Mathlib.Decide.{ℕ_discrete}
 use Rattle.usb_types.specs.declared.errno.Errno.TheVariants.{EBUSY, ENODEV, EPERM, ENOENT, ESHUTDOWN, EIDRM, EINPROGRESS}
 use Rattle.usb_types.specs.declared.errno.Code.{Code}
 use Rattle.usb_types.specs.declared.errno.Code.TheVariants.{Zero, Fault}
+use Rattle.usb_types.specs.declared.urb.Action.{Action}
+use Rattle.usb_types.specs.declared.urb.Action.TheVariants as action
 use Rattle.usb_types.specs.declared.urb.Why.{Why}
 use Rattle.usb_types.specs.declared.urb.Why.TheVariants.{Kill, Shutdown}
 use Rattle.usb_types.specs.declared.urb.Flag.TheVariants as flag
@@ -24,65 +26,80 @@ use Rattle.usb_machine.specs.Calls.{plain_entry, mark_entry, claim_entries}
 use Rattle.usb_xfer.specs.Replies.{Reply}
 use Rattle.usb_xfer.specs.Moved.{moved}
 use Rattle.usb_scene.specs.declared.scene.Scene.{Scene}
+use Rattle.usb_scene.specs.WellFormed.{IsWellFormed}
 use Rattle.usb_line.specs.declared.made.Outcome.{Outcome}
 use Rattle.usb_line.specs.declared.made.Outcome.TheVariants as outcome
 use Rattle.usb_prepare.specs.Ends.{ends_of, shape_at}
 use Rattle.usb_prepare.specs.Layout.{urb_count, home}
-use Rattle.usb_line.specs.Prepared.{machine_of}
-use Rattle.usb_line.specs.Run.{urbs_of, Giveback, given_entries, giveback_entries, acts_again, moved_in}
-use Rattle.usb_line.specs.Line.{Progress, takes_below, with_takes, is_unlinked, marked_of, had_after, round_of, replies_had, Gives, unlinked, ended, IsIdle, woken, StaysLoud, begins, goes_on, WaitsFor, already, turns, killing, all_flagged, shutting}
+use Rattle.usb_line.specs.Prepared.{machine_of, Asking, asking_of}
+use Rattle.usb_line.specs.Run.{urbs_of, Giveback, given_entries, giveback_entries, acts, moved_in}
+use Rattle.usb_line.specs.Line.{Progress, takes_below, with_takes, is_unlinked, marked_of, had_after, outcome_by, round_of, replies_had, Gives, unlinked, ended, IsIdle, woken, StaysLoud, begins, goes_on, WaitsFor, already, turns, killing, all_flagged, shutting}
 use Rattle.usb_line.specs.Steps.{IsStopping}
 use Rattle.usb_line.proofs.Entries.{own_state, other_state, legal_after}
 use Rattle.usb_line.proofs.Each.{marks_by, each_at}
 use Rattle.usb_line.proofs.Takes.{below_state, line_below, below_follow}
-use Rattle.usb_line.proofs.Givebacks.{resubmits, handled_state, given_state, giveback_state, giveback_other}
+use Rattle.usb_line.proofs.Givebacks.{resubmits, handled_state, given_state, giveback_state, giveback_other, apart_any, refused_apart}
 use Rattle.usb_line.specs.Between.{is_finished, IsCalm, AllLinked}
 use Rattle.usb_line.proofs.Calm.{linked_takes, linked_giveback, calm_places}
 use Rattle.usb_line.proofs.Marked.{is_marked}
-use Rattle.usb_line.proofs.Turns.{passed}
+use Rattle.usb_line.proofs.Turns.{passed, outcome_gated}
+use Rattle.usb_line.proofs.Asking.{can_pose_any}
 
 module _ (u : ℕ) where
   abbrev pub Stops : List Entry → Type 0
   Stops h = IsStopping (state_of h u)
 
-  module _ (s : Scene) (f : Progress) (v : ℕ) (status : Code) (finished : Bool) (t : Transfer) (replies : List Reply) where
+  module _ (s : Scene) (good : IsWellFormed s) (f : Progress) (v : ℕ) (status : Code) (finished : Bool) (t : Transfer) (replies : List Reply) where
     abbrev r : Giveback
     r = round_of s f v status finished t replies
 
     refused_again : is_zero (refusal (record (state_of f.history v) { queued = false })) ≡ false → resubmits r.outcome ≡ false
-    refused_again shut = go (acts_again s f.rounds v status (moved (shape_at s (home s v)) t replies))
+    refused_again shut = go (asking_of s v) (acts s f.rounds v status (moved (shape_at s (home s v)) t replies))
       where
-        go : (b : Bool) → resubmits (cond b (outcome.Again (refusal (state_of (f.history ++ given_entries v status finished) v))) outcome.Rest) ≡ false
-        go false = refl
-        go true = ap (λ (t : UrbState). is_zero (refusal t)) (given_state v status f.history finished) ∙ shut
+        go : (asking : Option Asking) (act : Action) → resubmits (outcome_by s (f.history ++ given_entries v status finished) v asking act) ≡ false
+        go asking (action.Again from len) = ap (λ (t : UrbState). is_zero (refusal t)) (given_state v status f.history finished) ∙ shut
+        go asking action.Rest = refl
+        go (Some a) action.Ask = refl
+        go None action.Ask = refl
+
+    -- the gate refuses it now too
+    refused_now : IsStopping (state_of f.history u) → is_zero (refusal (state_of f.history u)) ≡ false
+    refused_now stops = go (state_of f.history u).queued refl
+      where
+        go : (b : Bool) → (state_of f.history u).queued ≡ b → is_zero (refusal (state_of f.history u)) ≡ false
+        go true is = ap (λ b. is_zero (refusal (record (state_of f.history u) { queued = b }))) is
+        go false is = ap (λ b. is_zero (refusal (record (state_of f.history u) { queued = b }))) is ∙ stops.refused
 
     stop_back : Stops f.history → Stops (f.history ++ giveback_entries s r)
     stop_back old = dite (ℕ_discrete u v)
         (λ is. let at : IsStopping (state_of f.history v) = subst (λ (u : ℕ). IsStopping (state_of f.history u)) is old in
-        subst (λ (u : ℕ). IsStopping (state_of (f.history ++ giveback_entries s r) u)) (sym is) (subst IsStopping (sym (giveback_state s f.history r)) (go at r.outcome (refused_again at.refused))))
-        (λ off. subst IsStopping (sym (giveback_other s f.history r u off)) old)
+        subst (λ (u : ℕ). IsStopping (state_of (f.history ++ giveback_entries s r) u)) (sym is)
+        (subst IsStopping (sym (giveback_state s f.history r (apart_any s v (asking_of s v) (can_pose_any s good v)))) (go at r.outcome (refused_again at.refused))))
+        (λ off. subst IsStopping (sym (giveback_other s f.history r u off
+        (refused_apart s f.history r (can_pose_any s good v) (outcome_gated s f v status finished (moved (shape_at s (home s v)) t replies)) u (refused_now old)))) old)
       where
         go : IsStopping (state_of f.history v) → (o : Outcome) → resubmits o ≡ false → IsStopping (handled_state o (moved_in s r).number (record (state_of f.history v) { queued = false; mark = Clear }))
         go at outcome.Rest e = record { refused = at.refused; unlinked = λ q. absurd (true≢false (sym q)) }
         go at (outcome.Again Zero) e = absurd (true≢false e)
         go at (outcome.Again (Fault c)) e = record { refused = at.refused; unlinked = λ q. absurd (true≢false (sym q)) }
+        go at (outcome.Asked c) e = record { refused = at.refused; unlinked = λ q. absurd (true≢false (sym q)) }
 
   stop_takes : (s : Scene) (f : Progress) → Stops f.history → Stops (with_takes s f).history
   stop_takes s f old = subst IsStopping (sym (below_state s f.history (ends_of s) u)) old
 
-  pub stop_gives : (s : Scene) (f k : Progress) → Gives s f k → Stops f.history → Stops k.history
-  stop_gives s f _ (unlinked v why t is) old = stop_back s (with_takes s f) v (Fault (errno_of why)) false t (replies_had s (with_takes s f) v) (stop_takes s f old)
-  stop_gives s f _ (ended e m v t n code unmarked passes near awake at goes) old =
-      stop_back s m v code true t (had_after s m e t n) (subst Stops (sym (passed s (with_takes s f) m e passes).history) (stop_takes s f old))
+  pub stop_gives : (s : Scene) → IsWellFormed s → (f k : Progress) → Gives s f k → Stops f.history → Stops k.history
+  stop_gives s good f _ (unlinked v why t is) old = stop_back s good (with_takes s f) v (Fault (errno_of why)) false t (replies_had s (with_takes s f) v) (stop_takes s f old)
+  stop_gives s good f _ (ended e m v t n code unmarked passes near awake at goes) old =
+      stop_back s good m v code true t (had_after s m e t n) (subst Stops (sym (passed s (with_takes s f) m e passes).history) (stop_takes s f old))
 
-  stop_loud : (s : Scene) (w : ℕ) (f m : Progress) → StaysLoud s w f m → Stops f.history → Stops m.history
-  stop_loud s w f _ (begins loud) old = old
-  stop_loud s w f _ (goes_on m k before turn loud) old = stop_gives s m k turn (stop_loud s w f m before old)
+  stop_loud : (s : Scene) → IsWellFormed s → (w : ℕ) (f m : Progress) → StaysLoud s w f m → Stops f.history → Stops m.history
+  stop_loud s good w f _ (begins loud) old = old
+  stop_loud s good w f _ (goes_on m k before turn loud) old = stop_gives s good m k turn (stop_loud s good w f m before old)
 
   -- turns, and waits for any URB, leave it stopping
-  pub stop_waits : (s : Scene) (w : ℕ) (f k : Progress) → WaitsFor s w f k → Stops f.history → Stops k.history
-  stop_waits s w f _ (already quiet) old = old
-  stop_waits s w f _ (turns m k before turn quiet) old = stop_gives s m k turn (stop_loud s w (woken f) m before old)
+  pub stop_waits : (s : Scene) → IsWellFormed s → (w : ℕ) (f k : Progress) → WaitsFor s w f k → Stops f.history → Stops k.history
+  stop_waits s good w f _ (already quiet) old = old
+  stop_waits s good w f _ (turns m k before turn quiet) old = stop_gives s good m k turn (stop_loud s good w (woken f) m before old)
 
   pub stop_claim : (p v : ℕ) (rest : Option ℕ) (h : List Entry) → Stops h → Stops (h ++ claim_entries p v rest)
   stop_claim p v rest h old = dite (ℕ_discrete u v)

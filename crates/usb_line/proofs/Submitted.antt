@@ -1,5 +1,5 @@
 -- A call that submits an URB.
-use Rattle.std.proofs.Common.{ℕ, ◌≡◌, ◌<◌, Option, Some, None, List, [], ◌++◌, length, refl, sym, ap, ◌∙◌, subst, append-nil}
+use Rattle.std.proofs.Common.{ℕ, ◌≡◌, ◌<◌, ◌^◌, Option, Some, None, List, [], ◌++◌, length, refl, sym, ap, ◌∙◌, subst, append-nil, arith}
 use Rattle.std.specs.Prelude.{slice_get}
 use Rattle.usb_types.specs.declared.errno.Errno.{Errno}
 use Rattle.usb_types.specs.declared.errno.Code.{Code}
@@ -12,7 +12,6 @@ use Rattle.usb_machine.specs.History.{state_of}
 use Rattle.usb_machine.specs.Plain.{Stands}
 use Rattle.usb_machine.specs.Calls.{submit_entries}
 use Rattle.usb_scene.specs.declared.scene.Scene.{Scene}
-use Rattle.usb_scene.specs.declared.scene.SceneUrb.{SceneUrb}
 use Rattle.usb_scene.specs.declared.scene.Call.{Call}
 use Rattle.usb_scene.specs.WellFormed.{IsBuffer}
 use Rattle.usb_line.specs.declared.run.UrbRow.{UrbRow}
@@ -22,7 +21,7 @@ use Rattle.usb_line.specs.declared.made.Deed.TheVariants as deed
 use Rattle.usb_line.specs.declared.made.CallAnswer.TheVariants as told
 use Rattle.usb_prepare.specs.Ends.{shape_at, shapes_of}
 use Rattle.usb_prepare.specs.Layout.{urb_count, home}
-use Rattle.usb_line.specs.Prepared.{machine_of, len_in, short_in, buffer_of, fresh, submit_fault, pass_of, deed_of}
+use Rattle.usb_line.specs.Prepared.{machine_of, buffer_of, payload_by, fresh, submit_fault, pass_of, deed_of}
 use Rattle.usb_line.specs.Run.{submit_of, deed_entries, down_after}
 use Rattle.usb_line.specs.Line.{Progress, adds, doing, answer_now, submit_answer, at_once}
 use Rattle.usb_line.specs.Shows.{Shows}
@@ -31,8 +30,8 @@ use Rattle.usb_line.specs.Sent.{said_of, sent_by, MaySend, Sent}
 use Rattle.usb_line.proofs.Stills.{AreStill}
 use Rattle.usb_line.specs.Shows.{IsApt}
 use Rattle.usb_line.specs.declared.submit.Said.{Said}
-use Rattle.usb_line.proofs.Homes.{has_home, home_takes, fresh_window}
-use Rattle.usb_line.proofs.Lights.{fresh_apt}
+use Rattle.usb_line.proofs.Homes.{has_home, home_takes, fresh_long, fresh_window}
+use Rattle.usb_line.proofs.OnInterface.{fresh_apt}
 use Rattle.usb_prepare.proofs.Facts.{home_near}
 use Rattle.usb_line.proofs.Showing.{shows_called}
 use Rattle.usb_line.proofs.Calling.{can, there, is_there, near_plain, made_now}
@@ -54,11 +53,15 @@ module _ (s : Scene) (f : Progress) (i : ℕ) (c : Call) (run : LineRun) (p u : 
   known = near_plain s f i c run p (deed.Submit u) may u near
 
   module _ (said : Said) (is : said_of (slice_get s.urbs u) ≡ said) where
+    -- its buffer is short
+    pub sent_few : length (buffer_of said.len (payload_by c.target c)) < 2 ^ 32
+    sent_few = let few = fresh_long s may.good u c few_bytes in let same = ap (λ (x : Said). length (buffer_of x.len (payload_by c.target c))) is in omega arith
+
     pub fresh_is : fresh s u c ≡ sent_by said c
     fresh_is = ap (λ said. sent_by said c) is
 
-    -- its shape has a fault, which is seen without its bytes
-    pub fault_is : (o : Option Errno) → o ≡ shape_fault (shape_at s (home s u)) (record (sent_by said c) { buf = [] }) → submit_fault s u c ≡ o
+    -- its shape has a fault
+    pub fault_is : (o : Option Errno) → o ≡ shape_fault (shape_at s (home s u)) (sent_by said c) → submit_fault s u c ≡ o
     fault_is o e = ap (shape_fault (shape_at s (home s u))) fresh_is ∙ sym e
 
   pub made_fault : (x : Errno) → submit_fault s u c ≡ Some x → Made s f i c (told.Code (Fault x)) run
@@ -74,7 +77,7 @@ module _ (s : Scene) (f : Progress) (i : ℕ) (c : Call) (run : LineRun) (p u : 
     pub may_send : MaySend s f run p u t
     may_send = record {
       shows = may.shows;
-      apt = subst (IsApt s u) (sym is) (fresh_apt s may.good u c (can s f i c run p (deed.Submit u) may).is may.does);
+      apt = subst (IsApt s u) (sym is) (fresh_apt s may.good u c (can s f i c run p (deed.Submit u) may).is may.does none);
       ask = record {
         there = there s f i c run p (deed.Submit u) may;
         has = has_home s may.good u near;

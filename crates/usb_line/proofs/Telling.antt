@@ -10,6 +10,7 @@ use Rattle.usb_class.specs.declared.class_core.Core.{Core}
 use Rattle.usb_class.specs.declared.class_core.Told.{Told}
 use Rattle.usb_class.specs.Core.{IsCore}
 use Rattle.usb_class.specs.Done.{Done}
+use Rattle.usb_class.specs.Origin.{Origin}
 use Rattle.usb_class.specs.Told.{told_of}
 use Rattle.usb_scene.specs.declared.scene.Scene.{Scene}
 use Rattle.usb_line.specs.declared.run.EndRow.{EndRow}
@@ -18,6 +19,7 @@ use Rattle.usb_line.specs.declared.run.LineRun.{LineRun}
 use Rattle.usb_prepare.specs.Ends.{ends_of}
 use Rattle.usb_prepare.specs.Below.{below}
 use Rattle.usb_prepare.specs.Prepared.{bindings_of}
+use Rattle.usb_line.specs.Prepared.{origin_of}
 use Rattle.usb_line.specs.Run.{Giveback, done_at, told_from, drivers_told}
 use Rattle.usb_line.specs.Line.{Progress}
 use Rattle.usb_line.specs.Shows.{ShowsCores, Shows}
@@ -53,7 +55,7 @@ ends_told s f run shows =
 
 -- what a core tells, whatever it has seen
 abbrev pub Tells : Core → Told → Type 0
-Tells core t = (driver : Driver) (done : List Done) → IsCore driver done core → t ≡ told_of driver done
+Tells core t = (driver : Driver) (o : Origin) (done : List Done) → IsCore driver o done core → t ≡ told_of driver o done
 
 pub record AreTold (cores : List Core) (told : List Told) : Type 0 where
   pub count : length told ≡ length cores
@@ -62,19 +64,19 @@ pub record AreTold (cores : List Core) (told : List Told) : Type 0 where
 pub told_longer : (cores : List Core) (old new : List Told) (core : Core) (t : Told) → AreTold cores old → Tells core t → new ≡ old ++ t ∷ [] → AreTold (cores ++ core ∷ []) new
 told_longer cores old new core t are is e = subst (AreTold (cores ++ core ∷ [])) (sym e) record {
   count = (let a = length-append cores (core ∷ []) in let b = length-append old (t ∷ []) in let c = are.count in omega arith);
-  each = pairs_longer Tells cores old core t are.count are.each is;
+  each = pairs_longer (λ k. Tells) cores old core t are.count are.each is;
 }
 
 -- what the drivers of these bindings tell
 told_list : (s : Scene) (rounds : List Giveback) (k : ℕ) (bindings : List Bound) (told : List Told) → length told ≡ length bindings
-    → ((j : ℕ) (b : Bound) (t : Told) → slice_get bindings j ≡ Some b → slice_get told j ≡ Some t → t ≡ told_of b.driver (done_at s (k + j) rounds)) → told ≡ told_from s rounds k bindings
+    → ((j : ℕ) (b : Bound) (t : Told) → slice_get bindings j ≡ Some b → slice_get told j ≡ Some t → t ≡ told_of b.driver (origin_of s (k + j)) (done_at s (k + j) rounds)) → told ≡ told_from s rounds k bindings
 told_list s rounds k [] [] long each = refl
 told_list s rounds k [] (t ∷ told) long each = absurd (omega arith)
 told_list s rounds k (b ∷ bindings) [] long each = absurd (omega arith)
 told_list s rounds k (b ∷ bindings) (t ∷ told) long each =
-    let first : t ≡ told_of b.driver (done_at s k rounds) = each 0 b t refl refl ∙ ap (λ n. told_of b.driver (done_at s n rounds)) (add-zero k) in
+    let first : t ≡ told_of b.driver (origin_of s k) (done_at s k rounds) = each 0 b t refl refl ∙ ap (λ n. told_of b.driver (origin_of s n) (done_at s n rounds)) (add-zero k) in
     let others : told ≡ told_from s rounds (k + 1) bindings = told_list s rounds (k + 1) bindings told (omega arith) (λ j c x p q. each (suc j) c x p q
-    ∙ (let next : k + suc j ≡ k + 1 + j = omega arith in ap (λ n. told_of c.driver (done_at s n rounds)) next)) in
+    ∙ (let next : k + suc j ≡ k + 1 + j = omega arith in ap (λ n. told_of c.driver (origin_of s n) (done_at s n rounds)) next)) in
     (λ i. first i ∷ others i)
 
 pub drivers_tell : (s : Scene) (rounds : List Giveback) (cores : List Core) (told : List Told) → AreTold cores told → ShowsCores s rounds cores → told ≡ drivers_told s rounds
@@ -83,4 +85,4 @@ drivers_tell s rounds cores told are shows =
     told_list s rounds 0 (bindings_of s) told (omega arith) (λ j b t at is.
     let near = slice_get_within told j t is in
     let core = some_at cores j (omega arith) in
-    are.each j core.0 t core.1 is b.driver (done_at s j rounds) (shows.each j core.0 b core.1 at) ∙ ap (λ n. told_of b.driver (done_at s n rounds)) (sym (zero-add j)))
+    are.each j core.0 t core.1 is b.driver (origin_of s j) (done_at s j rounds) (shows.each j core.0 b core.1 at) ∙ ap (λ n. told_of b.driver (origin_of s n) (done_at s n rounds)) (sym (zero-add j)))

@@ -1,15 +1,17 @@
 -- The turns of a run keep what holds between blocks, and no other pass takes part in them.
-use Rattle.std.proofs.Common.{ℕ, ◌≡◌, ◌≢◌, ◌<◌, Bool, true, false, cond, eqb, Some, List, [], ◌∷◌, ◌++◌, length, refl, sym, ap, ◌∙◌, subst, arith, eq-eqb, eqb-true, true≢false}
+use Rattle.std.proofs.Common.{ℕ, ◌≡◌, ◌≢◌, ◌<◌, Bool, true, false, cond, eqb, Option, Some, None, List, [], ◌∷◌, ◌++◌, length, refl, sym, ap, ◌∙◌, subst, arith, eq-eqb, eqb-true, true≢false}
 use Rattle.std.specs.Prelude.{slice_get}
 use Rattle.usb_types.specs.declared.errno.Code.{Code}
 use Rattle.usb_types.specs.declared.errno.Code.TheVariants.{Fault}
+use Rattle.usb_types.specs.declared.urb.Action.{Action}
+use Rattle.usb_types.specs.declared.urb.Action.TheVariants as action
 use Rattle.usb_types.specs.declared.urb.Why.{Why}
 use Rattle.usb_types.specs.Codes.{errno_of}
 use Rattle.usb_machine.specs.declared.entry.TheConstants.{SERVER}
 use Rattle.usb_machine.specs.declared.state.Mark.{Mark as MarkState}
 use Rattle.usb_machine.specs.declared.state.Mark.TheVariants.{Clear, Unlinked, Finished}
 use Rattle.usb_machine.specs.declared.transfer.Transfer.{Transfer}
-use Rattle.usb_machine.specs.State.{refusal, is_clear, status_of}
+use Rattle.usb_machine.specs.State.{is_clear, status_of}
 use Rattle.usb_machine.specs.Shapes.{HasWindow, Accepts}
 use Rattle.usb_machine.specs.History.{state_of, pending_of, sent_of}
 use Rattle.usb_machine.specs.Parts.{part_of}
@@ -19,14 +21,17 @@ use Rattle.usb_machine.proofs.Sent.{queued_is_sent}
 use Rattle.usb_xfer.specs.Replies.{Reply}
 use Rattle.usb_xfer.specs.Moved.{moved, moved_state, IsWhole}
 use Rattle.usb_xfer.specs.declared.packet.Step.TheVariants.{Ended}
+use Rattle.usb_class.proofs.Facts.{unlinked_rests}
 use Rattle.usb_scene.specs.declared.scene.Scene.{Scene}
-use Rattle.usb_line.specs.declared.made.Outcome.TheVariants as outcome
+use Rattle.usb_scene.specs.WellFormed.{IsWellFormed}
+use Rattle.usb_line.specs.declared.owner.Owner.{Owner}
 use Rattle.usb_prepare.specs.Ends.{ends_of, shape_at}
 use Rattle.usb_prepare.specs.Layout.{home}
-use Rattle.usb_line.specs.Prepared.{machine_of, script_of, owner_of}
-use Rattle.usb_line.specs.Run.{Giveback, resent, given_entries, giveback_entries, is_first, acts_again, IsGiveback, IsHandled, rounds_at, replies_in, asked_in, asked_of}
-use Rattle.usb_line.specs.Line.{Progress, with_takes, takes_below, is_unlinked, marked_of, had_after, GoesTo, IsServed, IsMarked, outcome_at, round_of, given_back, replies_had, waits, Passes, none, over, stops, Gives, unlinked, ended, GivesBack, one, IsIdle, asks}
+use Rattle.usb_line.specs.Prepared.{machine_of, owner_of, Asking, asking_of}
+use Rattle.usb_line.specs.Run.{Giveback, resent, given_entries, giveback_entries, is_first, is_accepted, action_by, may_again, question_out, asks_or_rests, acts, IsGiveback, IsHandled, asked_in, asked_of}
+use Rattle.usb_line.specs.Line.{Progress, with_takes, takes_below, is_unlinked, marked_of, had_after, GoesTo, IsServed, IsMarked, outcome_by, outcome_at, round_of, given_back, replies_had, waits, Passes, none, over, stops, Gives, unlinked, ended, GivesBack, one, IsIdle, asks}
 use Rattle.usb_line.specs.Due.{next_due}
+use Rattle.usb_line.proofs.Asking.{can_pose_any}
 use Rattle.usb_line.proofs.Entries.{stays}
 use Rattle.usb_line.proofs.MayFollow.{once}
 use Rattle.usb_line.proofs.Takes.{below_pass}
@@ -35,7 +40,7 @@ use Rattle.usb_line.proofs.Calm.{is_finished}
 use Rattle.usb_line.proofs.Marked.{first_at_home, marked_at_home, first_unmarked}
 use Rattle.usb_line.proofs.Resending.{moved_fits}
 use Rattle.usb_line.proofs.Serving.{SentBare, Serves, takes_serve, waits_serve, longer_replies, whole_none, due_none}
-use Rattle.usb_line.proofs.Returning.{CanReturn, left, back_serves}
+use Rattle.usb_line.proofs.Returning.{CanReturn, back_serves}
 
 -- the part of a pass that is not the server's stays, and no call was made
 pub record IsTurned (f m : Progress) : Type 0 where
@@ -76,21 +81,59 @@ back_turned : (s : Scene) (f : Progress) (r : Giveback) → IsTurned f (given_ba
 back_turned s f r = record { parts = λ p off. stays SERVER f.history (giveback_entries s r) (giveback_pass s f.history r) p (λ i. off (sym i)); doings = refl; down = refl }
 
 pub outcome_gated : (s : Scene) (f : Progress) (u : ℕ) (status : Code) (finished : Bool) (t : Transfer)
-    → IsGated (state_of (f.history ++ given_entries u status finished) u) (outcome_at s f u status finished t)
-outcome_gated s f u status finished t = go (acts_again s f.rounds u status t)
+    → IsGated s (f.history ++ given_entries u status finished) u (asking_of s u) (outcome_at s f u status finished t)
+outcome_gated s f u status finished t = go (asking_of s u) (acts s f.rounds u status t)
   where
-    go : (b : Bool) → IsGated (state_of (f.history ++ given_entries u status finished) u) (cond b (outcome.Again (refusal (state_of (f.history ++ given_entries u status finished) u))) outcome.Rest)
-    go true = refl
-    go false = tt
+    go : (asking : Option Asking) (act : Action) → IsGated s (f.history ++ given_entries u status finished) u asking (outcome_by s (f.history ++ given_entries u status finished) u asking act)
+    go asking (action.Again from len) = refl
+    go (Some a) action.Ask = refl
+    go None action.Ask = tt
+    go asking action.Rest = tt
 
-outcome_handled : (s : Scene) (f : Progress) (u : ℕ) (status : Code) (finished : Bool) (t : Transfer) → IsHandled (acts_again s f.rounds u status t) (outcome_at s f u status finished t)
-outcome_handled s f u status finished t = go (acts_again s f.rounds u status t)
+outcome_handled : (s : Scene) (f : Progress) (u : ℕ) (status : Code) (finished : Bool) (t : Transfer) → IsHandled (acts s f.rounds u status t) (outcome_at s f u status finished t)
+outcome_handled s f u status finished t = go (asking_of s u) (question_out s f.rounds (owner_of s u)) (action_by (owner_of s u) (may_again s f.rounds u) status t)
   where
-    go : (b : Bool) → IsHandled b (cond b (outcome.Again (refusal (state_of (f.history ++ given_entries u status finished) u))) outcome.Rest)
-    go true = tt
-    go false = tt
+    go : (asking : Option Asking) (out : Bool) (raw : Action)
+        → IsHandled (asks_or_rests asking out raw) (outcome_by s (f.history ++ given_entries u status finished) u asking (asks_or_rests asking out raw))
+    go (Some a) false action.Ask = tt
+    go (Some a) true action.Ask = tt
+    go None false action.Ask = tt
+    go None true action.Ask = tt
+    go (Some a) false action.Rest = tt
+    go (Some a) true action.Rest = tt
+    go None false action.Rest = tt
+    go None true action.Rest = tt
+    go (Some a) false (action.Again from len) = tt
+    go (Some a) true (action.Again from len) = tt
+    go None false (action.Again from len) = tt
+    go None true (action.Again from len) = tt
 
-module _ (s : Scene) (f : Progress) (old : Serves s f) (u : ℕ) (t : Transfer) (among : 0 < times u (pending_of (machine_of s) f.history (home s u))) (sent : sent_of f.history u ≡ Some t) where
+-- what was unlinked asks nothing
+pub unlinked_unasked : (s : Scene) (f : Progress) (u : ℕ) (why : Why) (finished : Bool) (t : Transfer) → is_accepted (outcome_at s f u (Fault (errno_of why)) finished t) ≡ false
+unlinked_unasked s f u why finished t = by_owner (owner_of s u) (asking_of s u) (question_out s f.rounds (owner_of s u))
+  where
+    none : (raw : Action) → (raw ≡ action.Ask → ⊥) → (asking : Option Asking) (out : Bool)
+        → is_accepted (outcome_by s (f.history ++ given_entries u (Fault (errno_of why)) finished) u asking (asks_or_rests asking out raw)) ≡ false
+    none action.Ask off asking out = absurd (off refl)
+    none action.Rest off (Some a) true = refl
+    none action.Rest off (Some a) false = refl
+    none action.Rest off None true = refl
+    none action.Rest off None false = refl
+    none (action.Again from len) off (Some a) true = refl
+    none (action.Again from len) off (Some a) false = refl
+    none (action.Again from len) off None true = refl
+    none (action.Again from len) off None false = refl
+
+    own : (b : Bool) → action_by None b (Fault (errno_of why)) t ≡ action.Ask → ⊥
+    own true e = cc
+    own false e = cc
+
+    by_owner : (o : Option Owner) (asking : Option Asking) (out : Bool)
+        → is_accepted (outcome_by s (f.history ++ given_entries u (Fault (errno_of why)) finished) u asking (asks_or_rests asking out (action_by o (may_again s f.rounds u) (Fault (errno_of why)) t))) ≡ false
+    by_owner None asking out = none (action_by None (may_again s f.rounds u) (Fault (errno_of why)) t) (own (may_again s f.rounds u)) asking out
+    by_owner (Some o) asking out = none (action_by (Some o) (may_again s f.rounds u) (Fault (errno_of why)) t) (λ e. let rests = unlinked_rests o.driver o.role why t in let x = sym rests ∙ e in cc) asking out
+
+module _ (s : Scene) (good : IsWellFormed s) (f : Progress) (old : Serves s f) (u : ℕ) (t : Transfer) (among : 0 < times u (pending_of (machine_of s) f.history (home s u))) (sent : sent_of f.history u ≡ Some t) where
   queued : (state_of f.history u).queued ≡ true
   queued = pending_is_queued (machine_of s) f.history u old.legal among
 
@@ -116,6 +159,7 @@ module _ (s : Scene) (f : Progress) (old : Serves s f) (u : ℕ) (t : Transfer) 
       goes = again_fits.0;
       fits = again_fits.1;
       settled = settled;
+      asks = can_pose_any s good u;
       gated = outcome_gated s f u status finished (moved (shape_at s (home s u)) t replies);
     }
 
@@ -124,7 +168,7 @@ module _ (s : Scene) (f : Progress) (old : Serves s f) (u : ℕ) (t : Transfer) 
     returns settled back first due = record { can = can_give settled; sent = sent; giveback = back; handled = outcome_handled s f u status finished (moved (shape_at s (home s u)) t replies); first = first; replies = due }
 
 -- the first unlinked URB comes back with the replies that it had
-module _ (s : Scene) (f : Progress) (old : Serves s f) (u : ℕ) (why : Why) (t : Transfer) (is : IsMarked s f u why t) where
+module _ (s : Scene) (good : IsWellFormed s) (f : Progress) (old : Serves s f) (u : ℕ) (why : Why) (t : Transfer) (is : IsMarked s f u why t) where
   abbrev back : Giveback
   back = round_of s f u (Fault (errno_of why)) false t (replies_had s f u)
 
@@ -164,7 +208,7 @@ module _ (s : Scene) (f : Progress) (old : Serves s f) (u : ℕ) (why : Why) (t 
           at true here = (old.moving (home s u)).due u us t (e ∙ ap (λ w. w ∷ us) (eqb-true v u here)) is.transfer
 
   pub marked_serves : Serves s (given_back s f back)
-  marked_serves = back_serves s f back (returns s f old u t (marked_at_home s f.history u is.others old.legal is.first) is.transfer (Fault (errno_of why)) false (replies_had s f u)
+  marked_serves = back_serves s f back (returns s good f old u t (marked_at_home s f.history u is.others old.legal is.first) is.transfer (Fault (errno_of why)) false (replies_had s f u)
       (ap is_clear is.mark, ap status_of (sym is.mark))
       record { state = λ e. absurd (true≢false (sym e)); whole = marked_whole }
       marked_first marked_replies) old
@@ -175,7 +219,7 @@ clear_mark (Unlinked why) a b = absurd (true≢false a)
 clear_mark (Finished code) a b = absurd (true≢false b)
 
 -- the first pending URB of an endpoint comes back with the result of its transfer
-module _ (s : Scene) (f : Progress) (old : Serves s f) (e u : ℕ) (t : Transfer) (n : ℕ) (code : Code) (near : e < ends_of s) (unmarked : marked_of s f.history ≡ []) (at : IsServed s f e u t)
+module _ (s : Scene) (good : IsWellFormed s) (f : Progress) (old : Serves s f) (e u : ℕ) (t : Transfer) (n : ℕ) (code : Code) (near : e < ends_of s) (unmarked : marked_of s f.history ≡ []) (at : IsServed s f e u t)
     (goes : GoesTo s f e t n (Ended code)) where
   abbrev done : Giveback
   done = round_of s f u code true t (had_after s f e t n)
@@ -194,7 +238,7 @@ module _ (s : Scene) (f : Progress) (old : Serves s f) (e u : ℕ) (t : Transfer
       (longer_replies s f old e u at.others t n at.first at.transfer goes.whole)
 
   pub ended_serves : Serves s (given_back s f done)
-  ended_serves = back_serves s f done (returns s f old u t (once u _ at.others first_here) at.transfer code true (had_after s f e t n)
+  ended_serves = back_serves s f done (returns s good f old u t (once u _ at.others first_here) at.transfer code true (had_after s f e t n)
       ((at.others, first_here), clear_mark (state_of f.history u).mark (first_unmarked s f.history e u at.others near unmarked at.first) (old.calm u).mark)
       record {
         state = λ _. subst (λ d. moved_state (shape_at s d) t (had_after s f e t n) ≡ Ended code) here goes.state;
@@ -202,13 +246,14 @@ module _ (s : Scene) (f : Progress) (old : Serves s f) (e u : ℕ) (t : Transfer
       }
       (λ _. is_first_here) ended_replies) old
 
-module _ (s : Scene) where
+module _ (s : Scene) (good : IsWellFormed s) where
   pub gives_serve : (f k : Progress) → Gives s f k → Serves s f → Serves s k
-  gives_serve f _ (unlinked u why t is) old = marked_serves s (with_takes s f) (takes_serve s f old) u why t is
+  gives_serve f _ (unlinked u why t is) old = marked_serves s good (with_takes s f) (takes_serve s f old) u why t is
   gives_serve f _ (ended e m u t n code unmarked passes near awake at goes) old =
       let same = passed s (with_takes s f) m e passes in
-      ended_serves s m (passes_serve s (with_takes s f) m e passes (takes_serve s f old)) e u t n code near (ap (marked_of s) same.history ∙ unmarked) at goes
+      ended_serves s good m (passes_serve s (with_takes s f) m e passes (takes_serve s f old)) e u t n code near (ap (marked_of s) same.history ∙ unmarked) at goes
 
+module _ (s : Scene) where
   pub gives_turned : (f k : Progress) → Gives s f k → IsTurned f k
   gives_turned f _ (unlinked u why t is) = turned_on f (with_takes s f) _ (takes_turned s f) (back_turned s (with_takes s f) (round_of s (with_takes s f) u (Fault (errno_of why)) false t (replies_had s (with_takes s f) u)))
   gives_turned f _ (ended e m u t n code unmarked passes near awake at goes) =
@@ -224,9 +269,9 @@ module _ (s : Scene) where
   idle_turned f e idle = let same = passed s (with_takes s f) e (ends_of s) idle.passed in
       turned_on f (with_takes s f) e (takes_turned s f) record { parts = λ p off. ap (λ h. part_of h p) same.history; doings = same.doings; down = same.down }
 
-  pub gives_back_serve : (f m : Progress) → GivesBack s f m → Serves s f → Serves s m
-  gives_back_serve f _ none old = old
-  gives_back_serve f _ (one m k before turn) old = gives_serve m k turn (gives_back_serve f m before old)
+  pub gives_back_serve : IsWellFormed s → (f m : Progress) → GivesBack s f m → Serves s f → Serves s m
+  gives_back_serve good f _ none old = old
+  gives_back_serve good f _ (one m k before turn) old = gives_serve s good m k turn (gives_back_serve good f m before old)
 
   pub gives_back_turned : (f m : Progress) → GivesBack s f m → IsTurned f m
   gives_back_turned f _ none = turned_none f

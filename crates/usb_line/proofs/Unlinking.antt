@@ -17,8 +17,11 @@ use Rattle.usb_machine.specs.Legal.{times}
 use Rattle.usb_machine.proofs.Rooms.{pending_is_queued, queued_has_home}
 use Rattle.usb_xfer.specs.Replies.{Reply}
 use Rattle.usb_xfer.specs.Moved.{moved}
+use Rattle.usb_class.specs.Handler.{goes_again}
 use Rattle.usb_class.proofs.Facts.{unlinked_rests}
 use Rattle.usb_scene.specs.declared.scene.Scene.{Scene}
+use Rattle.usb_scene.specs.WellFormed.{IsWellFormed}
+use Rattle.usb_line.proofs.Asking.{can_pose_any}
 use Rattle.usb_line.specs.declared.run.UrbRow.{UrbRow}
 use Rattle.usb_line.specs.declared.run.LineRun.{LineRun}
 use Rattle.usb_prepare.specs.Ends.{ends_of, shape_at}
@@ -73,7 +76,7 @@ first_one : (u : ℕ) (us : List ℕ) → is_first u us ≡ true → (others : L
 first_one u [] is = absurd (true≢false (sym is))
 first_one u (v ∷ us) is = (us, ap (λ w. w ∷ us) (eqb-true v u is))
 
-module _ (s : Scene) (f : Progress) (run mid new : LineRun) (old : Shows s f run) (u : ℕ) (t : Transfer) (out : TakesOut run mid u (Some t)) (back : GaveBack mid new u None t)
+module _ (s : Scene) (good : IsWellFormed s) (f : Progress) (run mid new : LineRun) (old : Shows s f run) (u : ℕ) (t : Transfer) (out : TakesOut run mid u (Some t)) (back : GaveBack mid new u None t)
     (first : slice_get (marked_of s f.history) 0 ≡ Some u) where
   abbrev h : List Entry
   h = f.history
@@ -109,6 +112,7 @@ module _ (s : Scene) (f : Progress) (run mid new : LineRun) (old : Shows s f run
       goes = fits.0;
       fits = fits.1;
       settled = (ap is_clear why.1, ap status_of (sym why.1));
+      asks = can_pose_any s good u;
       gated = outcome_gated s f u (Fault (errno_of why.0)) false (moved (shape_at s (home s u)) has.moving.start (replies_had s f u));
     };
     at = refl;
@@ -129,12 +133,12 @@ module _ (s : Scene) (f : Progress) (run mid new : LineRun) (old : Shows s f run
       let had : replies_had s f u ≡ f.so_far (home s u) = ap (λ b. cond b (f.so_far (home s u)) []) is in
       asked_taken s f r is ∙ (ap (λ (l : List Reply). asked_of s (home s u) f.rounds ++ asks s (home s u) has.moving.start (length l)) had
       ∙ sym (asked_first s f (home s u) u one.0 has.moving.start one.1 has.moving.sent))
-  asked_here false off = asked_kept s f r off (ap (λ b. cond b (f.so_far (home s u)) []) off) (old.unmoved (home s u))
+  asked_here false off = asked_kept s f r may.can old.stands.legal off (ap (λ b. cond b (f.so_far (home s u)) []) off) (old.unmoved (home s u))
 
   asked_all : (d : ℕ) → asked_now s (given_back s f r) d ≡ asked_now s f d
   asked_all d = dite (ℕ_discrete (home s u) d)
       (λ is. ap (asked_now s (given_back s f r)) (sym is) ∙ (asked_here (is_first u (pending_of (machine_of s) h (home s u))) refl ∙ ap (asked_now s f) is))
-      (λ off. asked_others s f r old.stands.legal old.unmoved d off)
+      (λ off. asked_others s f r may.can old.stands.legal old.unmoved d off)
 
   devices : ShowsDevices s (given_back s f r) mid.devices.items
   devices = subst (λ l. ShowsDevices s (given_back s f r) l.items) (sym out.same_devices) (devices_same s f (given_back s f r) run.devices.items asked_all old.devices)
@@ -145,14 +149,14 @@ module _ (s : Scene) (f : Progress) (run mid new : LineRun) (old : Shows s f run
     why = why.0;
     start = has.moving.start;
     is = record { others = others; first = is; mark = why.1; transfer = has.moving.sent };
-    shows = shows_returned s f run old u out.row out.at back.end there mid new out.rows out.same_ends out.same None t back (Fault (errno_of why.0)) false has.moving.start (replies_had s f u)
+    shows = shows_returned s good f run old u out.row out.at back.end there mid new out.rows out.same_ends out.same None t back (Fault (errno_of why.0)) false has.moving.start (replies_had s f u)
         may has.moving.moving has.moving.apt devices;
   }
 
   pub unlinked_falls : turns_left new < turns_left run
-  unlinked_falls = falls_returned s f run old u out.row out.at back.end there mid new out.rows out.same_ends out.same None t back (Fault (errno_of why.0)) false has.moving.start (replies_had s f u)
-      may has.moving.moving t out.is (let same : all_left mid.devices.items ≡ all_left run.devices.items = ap (λ l. all_left l.items) out.same_devices in omega arith)
-      (λ o m own again. absurd (true≢false (sym again ∙ unlinked_rests o.driver o.role why.0 m)))
+  unlinked_falls = falls_returned s good f run old u out.row out.at back.end there mid new out.rows out.same_ends out.same None t back (Fault (errno_of why.0)) false has.moving.start (replies_had s f u)
+      may has.moving.moving t out.is refl (let same : all_left mid.devices.items ≡ all_left run.devices.items = ap (λ l. all_left l.items) out.same_devices in omega arith)
+      (λ o m own read again. absurd (true≢false (sym again ∙ ap goes_again (unlinked_rests o.driver o.role why.0 m))))
 
 -- the first unlinked URB is queued, and one of the run's
 pub unlinked_near : (s : Scene) (f : Progress) (run : LineRun) → Shows s f run → (u : ℕ) → slice_get (marked_of s f.history) 0 ≡ Some u → (u < length run.urbs.items) × ((state_of f.history u).queued ≡ true)

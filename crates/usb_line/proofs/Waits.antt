@@ -3,6 +3,7 @@ use Rattle.std.proofs.Common.{ℕ, ◌≡◌, Bool, true, false, not, ◌&&◌, 
 use Rattle.usb_machine.specs.declared.state.UrbState.{UrbState}
 use Rattle.usb_machine.specs.History.{state_of}
 use Rattle.usb_scene.specs.declared.scene.Scene.{Scene}
+use Rattle.usb_scene.specs.WellFormed.{IsWellFormed}
 use Rattle.usb_line.specs.Line.{Progress, woken, is_quiet, StaysLoud, begins, goes_on, WaitsFor, already, turns}
 use Rattle.usb_line.proofs.Serving.{Serves}
 use Rattle.usb_line.proofs.Turns.{IsTurned, turned_none, turned_on, gives_serve, gives_turned}
@@ -33,18 +34,19 @@ quiet_state t e = go t.queued (eqb t.handlers 0) refl refl e
     go false false p q e = absurd (true≢false (sym e))
     go false true p q e = (p, eqb-true t.handlers 0 q)
 
-module _ (s : Scene) (u : ℕ) where
+module _ (s : Scene) (good : IsWellFormed s) (u : ℕ) where
   loud_serves : (f m : Progress) → StaysLoud s u f m → Serves s f → Serves s m
   loud_serves f _ (begins loud) old = old
-  loud_serves f _ (goes_on m k before turn loud) old = gives_serve s m k turn (loud_serves f m before old)
-
-  loud_turned : (f m : Progress) → StaysLoud s u f m → IsTurned f m
-  loud_turned f _ (begins loud) = turned_none f
-  loud_turned f _ (goes_on m k before turn loud) = turned_on f m k (loud_turned f m before) (gives_turned s m k turn)
+  loud_serves f _ (goes_on m k before turn loud) old = gives_serve s good m k turn (loud_serves f m before old)
 
   pub wait_serves : (f k : Progress) → WaitsFor s u f k → Serves s f → Serves s k
   wait_serves f _ (already quiet) old = old
-  wait_serves f _ (turns m k before turn quiet) old = gives_serve s m k turn (loud_serves (woken f) m before (woken_serves s f old))
+  wait_serves f _ (turns m k before turn quiet) old = gives_serve s good m k turn (loud_serves (woken f) m before (woken_serves s f old))
+
+module _ (s : Scene) (u : ℕ) where
+  loud_turned : (f m : Progress) → StaysLoud s u f m → IsTurned f m
+  loud_turned f _ (begins loud) = turned_none f
+  loud_turned f _ (goes_on m k before turn loud) = turned_on f m k (loud_turned f m before) (gives_turned s m k turn)
 
   pub wait_turned : (f k : Progress) → WaitsFor s u f k → IsTurned f k
   wait_turned f _ (already quiet) = turned_none f

@@ -4,6 +4,8 @@ use Rattle.usb_types.specs.declared.errno.Errno.{Errno}
 use Rattle.usb_types.specs.declared.errno.Errno.TheVariants.{ENODEV, ESHUTDOWN}
 use Rattle.usb_types.specs.declared.errno.Code.{Code}
 use Rattle.usb_types.specs.declared.errno.Code.TheVariants.{Fault}
+use Rattle.usb_types.specs.declared.urb.Action.{Action}
+use Rattle.usb_types.specs.declared.urb.Action.TheVariants as action
 use Rattle.usb_types.specs.declared.urb.Why.{Why}
 use Rattle.usb_types.specs.declared.urb.Why.TheVariants.{Kill, Shutdown}
 use Rattle.usb_types.specs.declared.urb.Flag.TheVariants as flag
@@ -16,6 +18,7 @@ use Rattle.usb_machine.specs.declared.state.Mark.TheVariants.{Clear, Unlinked, F
 use Rattle.usb_machine.specs.declared.state.UrbState.{UrbState}
 use Rattle.usb_machine.specs.declared.entry.Entry.{Entry}
 use Rattle.usb_machine.specs.declared.transfer.Transfer.{Transfer}
+use Rattle.usb_machine.specs.Shapes.{shape_fault}
 use Rattle.usb_machine.specs.State.{refusal, unlinking}
 use Rattle.usb_machine.specs.History.{state_of, line_of, pending_of, sent_of}
 use Rattle.usb_machine.specs.Calls.{entry, plain_entry, mark_entry, claim_entries, unblock_entries, marks_of}
@@ -33,8 +36,8 @@ use Rattle.usb_line.specs.declared.made.Outcome.{Outcome}
 use Rattle.usb_line.specs.declared.made.Outcome.TheVariants as outcome
 use Rattle.usb_prepare.specs.Ends.{ends_of, shape_at}
 use Rattle.usb_prepare.specs.Layout.{home}
-use Rattle.usb_line.specs.Prepared.{machine_of, script_of, submit_fault, deed_of, pass_of, main_pass, calls_of}
-use Rattle.usb_line.specs.Run.{urbs_of, Doing, call_entries, down_after, Giveback, given_entries, giveback_entries, acts_again, rounds_at, replies_in, is_first, opening, seen_quiet, asked_of}
+use Rattle.usb_line.specs.Prepared.{machine_of, Asking, asking_of, submit_fault, deed_of, pass_of, main_pass, calls_of}
+use Rattle.usb_line.specs.Run.{urbs_of, Doing, call_entries, down_after, Giveback, given_entries, giveback_entries, acts, is_first, opening, seen_quiet, asked_of}
 use Rattle.usb_line.specs.Due.{next_due}
 use Rattle.std.specs.List.{flat_map}
 
@@ -119,10 +122,19 @@ pub record IsMarked (s : Scene) (f : Progress) (u : ℕ) (why : Why) (t : Transf
   pub mark : (state_of f.history u).mark ≡ Unlinked why
   pub transfer : sent_of f.history u ≡ Some t
 
--- the handler of u submits this transfer again where the scene or its driver says so, and is answered by the gate
+-- a submit answers the fault of its shape, or what the gate says
+abbrev pub submit_answer : Option Errno → Code → Code
+submit_answer None code = code
+submit_answer (Some errno) code = Fault errno
+
+-- what a handler of u that acts so behind this history is answered by the gate: where it submits u again, and where it asks
+abbrev pub outcome_by : Scene → List Entry → ℕ → Option Asking → Action → Outcome
+outcome_by s h u asking (action.Again from len) = outcome.Again (refusal (state_of h u))
+outcome_by s h u (Some a) action.Ask = outcome.Asked (submit_answer (shape_fault (shape_at s (home s a.urb)) a.transfer) (refusal (state_of h a.urb)))
+outcome_by s h u asking act = outcome.Rest
+
 abbrev pub outcome_at : Scene → Progress → ℕ → Code → Bool → Transfer → Outcome
-outcome_at s f u status finished t =
-    if acts_again s f.rounds u status t then outcome.Again (refusal (state_of (f.history ++ given_entries u status finished) u)) else outcome.Rest
+outcome_at s f u status finished t = outcome_by s (f.history ++ given_entries u status finished) u (asking_of s u) (acts s f.rounds u status t)
 
 abbrev pub round_of : Scene → Progress → ℕ → Code → Bool → Transfer → List Reply → Giveback
 round_of s f u status finished t replies =
@@ -203,11 +215,6 @@ with_doing s f d = record f { doings = f.doings ++ d ∷ []; down = down_after f
 
 abbrev pub doing : Progress → ℕ → Call → CallAnswer → List Code → List (Option ℕ) → Doing
 doing f i c answer marks rests = record { thread = i; call = c; answer = answer; marks = marks; rests = rests; down = f.down }
-
--- a submit answers the fault of its shape, or what the gate says
-abbrev pub submit_answer : Option Errno → Code → Code
-submit_answer None code = code
-submit_answer (Some errno) code = Fault errno
 
 -- the beginning of a shutdown: all URBs are flagged, and then marked with the machine's answers
 abbrev pub all_flagged : Scene → ℕ → Progress → Progress

@@ -1,19 +1,23 @@
 -- What the run of a scene is made on: the machine of its host with the passes, the script of each endpoint, what its own
 -- URBs submit, and what its calls do.
-use Rattle.std.specs.Prelude.{ℕ, ◌+◌, Bool, false, ◌==◌, if◌then◌else◌, codes, List, [], ◌∷◌, ◌++◌, length, map, count_by, slice_get, find, replicate, Option, Some, None, option_map, option_and_then}
+use Rattle.std.specs.Prelude.{ℕ, ◌+◌, Bool, false, ◌==◌, if◌then◌else◌, codes, List, [], ◌∷◌, ◌++◌, length, map, count_by, slice_get, slice_index_or, find, replicate, Option, Some, None, option_map, option_and_then}
 use Rattle.std.specs.Option.{option_map_or}
 use Rattle.std.specs.Str.{bytes_eq}
 use Rattle.usb_types.specs.declared.errno.Errno.{Errno}
 use Rattle.usb_types.specs.declared.urb.UrbId.{UrbId}
+use Rattle.usb_types.specs.declared.urb.Role.TheVariants.{Ctl}
 use Rattle.usb_machine.specs.declared.entry.TheConstants.{SERVER, HUB}
 use Rattle.usb_machine.specs.declared.transfer.Transfer.{Transfer}
 use Rattle.usb_machine.specs.Shapes.{shape_fault}
 use Rattle.usb_machine.specs.History.{Machine}
 use Rattle.usb_device.specs.Items.{Script, last_at, script_at}
 use Rattle.usb_bind.specs.declared.bound.Bound.{Bound}
-use Rattle.usb_bind.specs.Board.{is_binding_of}
-use Rattle.usb_class.specs.Roles.{role_in, read_size, has_number}
-use Rattle.usb_class.specs.Calls.{urb_for, setup_for}
+use Rattle.usb_bind.specs.Board.{BoardValue, is_binding_of, urb_of_role}
+use Rattle.usb_class.specs.Roles.{role_in, kept_size, has_number}
+use Rattle.usb_class.specs.Calls.{urb_for, setup_for, payload_for, window_for}
+use Rattle.usb_class.specs.Origin.{Origin}
+use Rattle.usb_class.specs.Asking.{question_by}
+use Rattle.usb_class.specs.Handler.{is_ctl}
 use Rattle.usb_scene.specs.declared.scene.Scene.{Scene}
 use Rattle.usb_scene.specs.declared.scene.SceneDevice.{SceneDevice}
 use Rattle.usb_scene.specs.declared.scene.SceneUrb.{SceneUrb}
@@ -23,7 +27,7 @@ use Rattle.usb_scene.specs.declared.scene.Target.{Target}
 use Rattle.usb_scene.specs.declared.scene.Target.TheVariants as target
 use Rattle.usb_prepare.specs.Below.{below}
 use Rattle.usb_prepare.specs.Ends.{shape_at}
-use Rattle.usb_prepare.specs.Prepared.{bindings_of}
+use Rattle.usb_prepare.specs.Prepared.{probes_of, bindings_of, ids_of}
 use Rattle.usb_prepare.specs.Layout.{layout_of, home, role_urb}
 use Rattle.usb_line.specs.declared.owner.Owner.{Owner}
 use Rattle.usb_line.specs.declared.made.Deed.{Deed}
@@ -73,15 +77,15 @@ again_in (Some u) = u.again
 abbrev pub again_of : Scene → ℕ → ℕ
 again_of s u = again_in (slice_get s.urbs u)
 
--- the first of these bindings that has URB u, by its place, with what it has it for
-abbrev pub owner_from : ℕ → List Bound → ℕ → Option Owner
-owner_from k [] u = None
-owner_from k (b ∷ bindings) u =
-    option_map_or (λ role. Some (record { place = k; driver = b.driver; role = role })) (role_in u b) (owner_from (k + 1) bindings u)
+-- the first of these bindings of a board that has URB u, by its place, with what it has it for
+abbrev pub owner_from : BoardValue → ℕ → List Bound → ℕ → Option Owner
+owner_from board k [] u = None
+owner_from board k (b ∷ bindings) u =
+    option_map_or (λ role. Some (record { place = k; driver = b.driver; role = role; size = kept_size board b role; ctl = urb_of_role b Ctl })) (role_in u b) (owner_from board (k + 1) bindings u)
 
 -- the driver that has URB u; the scene's own URBs have none
 unfoldable pub owner_of : Scene → ℕ → Option Owner
-owner_of s u = owner_from 0 (bindings_of s) u
+owner_of s u = owner_from (probes_of s).board 0 (bindings_of s) u
 
 -- whether transfers of URB u have numbers of the drivers' own
 abbrev pub is_numbered_by : Option Owner → Bool
@@ -94,6 +98,36 @@ is_numbered s u = is_numbered_by (owner_of s u)
 abbrev pub number_of : Scene → ℕ → ℕ
 number_of s u = 2000000 + count_by (is_numbered s) (below u)
 
+-- the number of the URB's own transfer, where there is one
+abbrev pub number_in : Scene → Option UrbId → ℕ
+number_in s None = 0
+number_in s (Some urb) = number_of s urb.0
+
+-- what the core of a binding begins with: its question is asked with the URB for control transfers
+abbrev pub origin_by : Scene → ℕ → Option Bound → Origin
+origin_by s k None = record { number = 0; interface = 0; id = [] }
+origin_by s k (Some b) = record { number = number_in s (urb_of_role b Ctl); interface = b.interface; id = slice_index_or (ids_of s) k [] }
+
+unfoldable pub origin_of : Scene → ℕ → Origin
+origin_of s k = origin_by s k (slice_get (bindings_of s) k)
+
+-- a question of a driver: the URB that it is asked with, and the transfer
+pub record Asking : Type 0 where
+  pub urb : ℕ
+  pub transfer : Transfer
+
+abbrev pub asking_with : Option UrbId → Option Transfer → Option Asking
+asking_with (Some urb) (Some t) = Some (record { urb = urb.0; transfer = t })
+asking_with _ _ = None
+
+-- the question of the driver that has an URB, if it has one. Behind the URB that it is asked with it asks none
+abbrev pub asking_by : Scene → Option Owner → Option Asking
+asking_by s None = None
+asking_by s (Some o) = if is_ctl o.role then None else asking_with o.ctl (question_by o.driver (origin_of s o.place))
+
+unfoldable pub asking_of : Scene → ℕ → Option Asking
+asking_of s u = asking_by s (owner_of s u)
+
 -- so many bytes to be read
 abbrev pub reading : ℕ → ℕ → Transfer
 reading number size =
@@ -101,7 +135,7 @@ reading number size =
 
 -- the read that a driver keeps with URB u, if it does
 abbrev pub read_by : Option Owner → ℕ → Option Transfer
-read_by o number = option_map (reading number) (option_and_then (λ (o : Owner). read_size o.driver o.role) o)
+read_by o number = option_map (reading number) (option_and_then (λ (o : Owner). o.size) o)
 
 abbrev pub read_of : Scene → ℕ → Option Transfer
 read_of s u = read_by (owner_of s u) (number_of s u)
@@ -112,14 +146,24 @@ buffer_of len None = replicate len 0
 buffer_of len (Some bytes) = bytes
 
 -- the setup packet that a call sends: the one that it has for an interface, or else the one that it says
-abbrev pub setup_by : ℕ → Target → Option (List ℕ) → Option (List ℕ)
-setup_by code (target.Interface device interface) said = setup_for code interface
-setup_by code _ said = said
+abbrev pub setup_by : Target → Call → Option (List ℕ)
+setup_by (target.Interface device interface) c = setup_for c.code interface c.numbers c.bytes
+setup_by _ c = c.setup
 
--- the transfer that a submit of URB u sends. Its window is its whole buffer, and its number the line's
+-- and the bytes
+abbrev pub payload_by : Target → Call → Option (List ℕ)
+payload_by (target.Interface device interface) c = payload_for c.code c.numbers c.bytes
+payload_by _ c = c.bytes
+
+-- and how many of them are its window
+abbrev pub window_by : Target → Call → ℕ → ℕ
+window_by (target.Interface device interface) c n = window_for c.code n
+window_by _ c n = n
+
+-- the transfer that a submit of URB u sends. Its number is the line's
 abbrev pub fresh : Scene → ℕ → Call → Transfer
-fresh s u c = let urb = slice_get s.urbs u in let buf = buffer_of (len_in urb) c.bytes in
-    record { setup = setup_by c.code c.target c.setup; buf = buf; from = 0; len = length buf; short_not_ok = short_in urb; actual = 0; number = c.line }
+fresh s u c = let urb = slice_get s.urbs u in let buf = buffer_of (len_in urb) (payload_by c.target c) in
+    record { setup = setup_by c.target c; buf = buf; from = 0; len = window_by c.target c (length buf); short_not_ok = short_in urb; actual = 0; number = c.line }
 
 -- the fault of its shape, if a submit has one
 abbrev pub submit_fault : Scene → ℕ → Call → Option Errno

@@ -1,6 +1,7 @@
 -- What a history has to do with a scene, in whatever order its entries came.
-use Rattle.std.specs.Prelude.{ℕ, ◌+◌, ◌≡◌, ◌≢◌, ◌<◌, ◌==◌, nat_lt, Bool, true, false, not, if◌then◌else◌, List, [], ◌∷◌, ◌++◌, length, map, filter, count_by, slice_get, filter_map, Option, Some, None, option_and_then, replicate}
+use Rattle.std.specs.Prelude.{ℕ, ◌+◌, ◌≡◌, ◌≢◌, ◌<◌, ◌==◌, ◌&&◌, ◌||◌, nat_lt, fold, Bool, true, false, not, if◌then◌else◌, List, [], ◌∷◌, ◌++◌, length, map, filter, count_by, slice_get, filter_map, Option, Some, None, option_and_then, replicate}
 use Rattle.std.specs.List.{flat_map, All}
+use Rattle.std.specs.Option.{option_map_or}
 use Rattle.usb_types.specs.declared.errno.Errno.{Errno}
 use Rattle.usb_types.specs.declared.errno.Errno.TheVariants.{ENODEV, ESHUTDOWN}
 use Rattle.usb_types.specs.declared.errno.Code.{Code}
@@ -25,7 +26,8 @@ use Rattle.usb_xfer.specs.Replies.{Reply, Question}
 use Rattle.usb_xfer.specs.declared.packet.Step.TheVariants.{Ended}
 use Rattle.usb_xfer.specs.Moved.{moved, moved_state, IsWhole, question_of}
 use Rattle.usb_class.specs.Done.{Done}
-use Rattle.usb_class.specs.Handler.{action_of, goes_again, window_by}
+use Rattle.usb_class.specs.Handler.{action_of, window_by}
+use Rattle.usb_class.specs.Asking.{is_answer}
 use Rattle.usb_class.specs.Told.{told_of}
 use Rattle.usb_class.specs.declared.class_core.Told.{Told}
 use Rattle.usb_bind.specs.declared.bound.Bound.{Bound}
@@ -43,7 +45,7 @@ use Rattle.usb_prepare.specs.Below.{below}
 use Rattle.usb_prepare.specs.Ends.{shape_at}
 use Rattle.usb_prepare.specs.Layout.{urb_count, home}
 use Rattle.usb_prepare.specs.Prepared.{bindings_of}
-use Rattle.usb_line.specs.Prepared.{machine_of, script_of, owner_of, read_of, fresh, submit_fault, again_of, deed_of, pass_of, main_pass}
+use Rattle.usb_line.specs.Prepared.{machine_of, owner_of, read_of, origin_of, Asking, asking_of, fresh, submit_fault, again_of, deed_of, pass_of, main_pass}
 use Rattle.usb_line.specs.Due.{next_due}
 
 -- all URBs of a scene
@@ -156,13 +158,19 @@ resent s r = resent_as (owner_of s r.urb) r.status (moved_in s r)
 abbrev pub rest_entry : ℕ → Transfer → Entry
 rest_entry u t = entry SERVER (Rest record { 0 = u } t.number) Nothing (Some t)
 
--- the handler rests the transfer, or submits it again and rests it where that is refused
-abbrev pub handled_by : ℕ → Transfer → Transfer → Outcome → List Entry
-handled_by u back again outcome.Rest = rest_entry u back ∷ []
-handled_by u back again (outcome.Again code) = submit_entries SERVER u again code ++ (if is_zero code then [] else rest_entry u again ∷ [])
+-- a driver's question is submitted, where the endpoint takes it
+abbrev pub asked_entries : Scene → Option Asking → Code → List Entry
+asked_entries s None code = []
+asked_entries s (Some a) code = submit_of (shape_fault (shape_at s (home s a.urb)) a.transfer) SERVER a.urb a.transfer code
+
+-- the handler rests the transfer, or submits it again and rests it where that is refused, or rests it and asks its driver's question
+abbrev pub handled_by : Scene → ℕ → Transfer → Transfer → Option Asking → Outcome → List Entry
+handled_by s u back again asking outcome.Rest = rest_entry u back ∷ []
+handled_by s u back again asking (outcome.Again code) = submit_entries SERVER u again code ++ (if is_zero code then [] else rest_entry u again ∷ [])
+handled_by s u back again asking (outcome.Asked code) = rest_entry u back ∷ asked_entries s asking code
 
 abbrev pub handler_entries : Scene → Giveback → List Entry
-handler_entries s r = handled_by r.urb (moved_in s r) (resent s r) r.outcome ++ plain_entry SERVER (End record { 0 = r.urb }) ∷ []
+handler_entries s r = handled_by s r.urb (moved_in s r) (resent s r) (asking_of s r.urb) r.outcome ++ plain_entry SERVER (End record { 0 = r.urb }) ∷ []
 
 -- the server finishes the URB where no mark stood, and gives it back
 abbrev pub given_entries : ℕ → Code → Bool → List Entry
@@ -185,23 +193,54 @@ pub record IsGiveback (s : Scene) (r : Giveback) : Type 0 where
 abbrev pub times_back : ℕ → List Giveback → ℕ
 times_back u rounds = count_by (λ r. r.urb == u) rounds
 
+-- the gate accepted a question
+abbrev pub is_accepted : Outcome → Bool
+is_accepted (outcome.Asked code) = is_zero code
+is_accepted o = false
+
 -- whether an URB came back fewer times than the scene lets its handler submit again
 abbrev pub may_again : Scene → List Giveback → ℕ → Bool
 may_again s before u = nat_lt (times_back u before) (again_of s u)
 
--- whether the next handler of URB u submits again a transfer that came back with this status
-abbrev pub acts_again : Scene → List Giveback → ℕ → Code → Transfer → Bool
-acts_again s before u status t = goes_again (action_by (owner_of s u) (may_again s before u) status t)
+-- the question of the binding at this place was asked, and accepted
+abbrev pub was_asked : Scene → ℕ → Giveback → Bool
+was_asked s k r = option_map_or (λ (o : Owner). o.place == k && is_accepted r.outcome) (owner_of s r.urb) false
 
-abbrev pub IsHandled : Bool → Outcome → Type 0
-IsHandled true (outcome.Again code) = Unit {0}
-IsHandled false outcome.Rest = Unit {0}
+-- it came back
+abbrev pub was_answered : Scene → ℕ → Giveback → Bool
+was_answered s k r = option_map_or (λ (o : Owner). o.place == k && is_answer o.driver (origin_of s k) o.role (moved_in s r)) (owner_of s r.urb) false
+
+abbrev pub out_after : Scene → ℕ → Bool → Giveback → Bool
+out_after s k out r = if was_answered s k r then false else out || was_asked s k r
+
+-- whether it is out behind these givebacks: asked, and not back yet
+abbrev pub is_out : Scene → ℕ → List Giveback → Bool
+is_out s k rounds = fold (out_after s k) false rounds
+
+abbrev pub question_out : Scene → List Giveback → Option Owner → Bool
+question_out s rounds o = option_map_or (λ (o : Owner). is_out s o.place rounds) o false
+
+-- a driver asks where it has a question that is not out, and else rests
+abbrev pub asks_or_rests : Option Asking → Bool → Action → Action
+asks_or_rests (Some asking) false action.Ask = action.Ask
+asks_or_rests asking out action.Ask = action.Rest
+asks_or_rests asking out act = act
+
+-- what the next handler of URB u does with a transfer that came back with this status
+abbrev pub acts : Scene → List Giveback → ℕ → Code → Transfer → Action
+acts s before u status t =
+    asks_or_rests (asking_of s u) (question_out s before (owner_of s u)) (action_by (owner_of s u) (may_again s before u) status t)
+
+abbrev pub IsHandled : Action → Outcome → Type 0
+IsHandled (action.Again from len) (outcome.Again code) = Unit {0}
+IsHandled action.Rest outcome.Rest = Unit {0}
+IsHandled action.Ask (outcome.Asked code) = Unit {0}
 IsHandled _ _ = ⊥
 
 -- each handler does what the scene or its driver says
 abbrev pub AreHandled : Scene → List Giveback → List Giveback → Type 0
 AreHandled s before [] = Unit {0}
-AreHandled s before (r ∷ rounds) = IsHandled (acts_again s before r.urb r.status (moved_in s r)) r.outcome × AreHandled s (before ++ r ∷ []) rounds
+AreHandled s before (r ∷ rounds) = IsHandled (acts s before r.urb r.status (moved_in s r)) r.outcome × AreHandled s (before ++ r ∷ []) rounds
 
 -- what the driver of the binding at this place heard of a giveback, and of all in their order
 abbrev pub done_in : Scene → ℕ → Giveback → Option Done
@@ -214,7 +253,7 @@ done_at s k rounds = filter_map (done_in s k) rounds
 -- what the drivers of these bindings tell, of which the first has this place
 abbrev pub told_from : Scene → List Giveback → ℕ → List Bound → List Told
 told_from s rounds k [] = []
-told_from s rounds k (b ∷ bindings) = told_of b.driver (done_at s k rounds) ∷ told_from s rounds (k + 1) bindings
+told_from s rounds k (b ∷ bindings) = told_of b.driver (origin_of s k) (done_at s k rounds) ∷ told_from s rounds (k + 1) bindings
 
 abbrev pub drivers_told : Scene → List Giveback → List Told
 drivers_told s rounds = told_from s rounds 0 (bindings_of s)

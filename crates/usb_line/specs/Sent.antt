@@ -15,7 +15,7 @@ use Rattle.usb_line.specs.declared.run.UrbRow.{UrbRow}
 use Rattle.usb_line.specs.declared.run.LineRun.{LineRun}
 use Rattle.usb_prepare.specs.Layout.{home}
 use Rattle.usb_line.specs.declared.submit.Said.{Said}
-use Rattle.usb_line.specs.Prepared.{machine_of, buffer_of, len_in, short_in, setup_by}
+use Rattle.usb_line.specs.Prepared.{machine_of, buffer_of, len_in, short_in, setup_by, payload_by, window_by}
 use Rattle.usb_line.specs.Line.{Progress, adds}
 use Rattle.usb_line.specs.Shows.{IsApt, Shows}
 use Rattle.usb_line.specs.Steps.{passes_of}
@@ -28,8 +28,8 @@ said_of urb = record { len = len_in urb; short = short_in urb }
 
 -- the transfer that a submit sends of an URB of which this is said
 abbrev pub sent_by : Said → Call → Transfer
-sent_by said c = let buf = buffer_of said.len c.bytes in
-    record { setup = setup_by c.code c.target c.setup; buf = buf; from = 0; len = length buf; short_not_ok = said.short; actual = 0; number = c.line }
+sent_by said c = let buf = buffer_of said.len (payload_by c.target c) in
+    record { setup = setup_by c.target c; buf = buf; from = 0; len = window_by c.target c (length buf); short_not_ok = said.short; actual = 0; number = c.line }
 
 -- the machine may be asked to send this transfer, which the URB's home takes
 pub record MayAsk (s : Scene) (h : List Entry) (p u : ℕ) (t : Transfer) : Type 0 where

@@ -1,5 +1,6 @@
 -- What the code of a run keeps of it.
-use Rattle.std.specs.Prelude.{ℕ, ◌≡◌, ◌+◌, ◌-◌, ◌<◌, ◌^◌, Bool, true, false, List, [], ◌++◌, length, map, sum_by, slice_get, Option, Some, None, option_and_then}
+use Rattle.std.specs.Prelude.{ℕ, ◌≡◌, ◌+◌, ◌-◌, ◌<◌, ◌^◌, Bool, true, false, if◌then◌else◌, List, [], ◌++◌, length, map, sum_by, slice_get, Option, Some, None, option_and_then}
+use Rattle.std.specs.Option.{option_map_or}
 use Rattle.usb_machine.specs.declared.transfer.Transfer.{Transfer}
 use Rattle.usb_machine.specs.declared.entry.Entry.{Entry}
 use Rattle.usb_machine.specs.declared.plain.Plain.{Plain}
@@ -13,7 +14,8 @@ use Rattle.usb_device.specs.Laws.{sets_halt, NoneHalts}
 use Rattle.usb_device.specs.Left.{items_left}
 use Rattle.usb_bind.specs.declared.bound.Bound.{Bound}
 use Rattle.usb_class.specs.declared.class_core.Core.{Core}
-use Rattle.usb_class.specs.Core.{IsCore}
+use Rattle.usb_class.specs.Core.{IsCore, is_asking}
+use Rattle.usb_class.specs.Handler.{is_ctl}
 use Rattle.usb_xfer.specs.Replies.{Question}
 use Rattle.usb_scene.specs.declared.scene.Scene.{Scene}
 use Rattle.usb_scene.specs.declared.scene.SceneDevice.{SceneDevice}
@@ -24,8 +26,9 @@ use Rattle.usb_line.specs.declared.run.LineRun.{LineRun}
 use Rattle.usb_prepare.specs.Ends.{ends_of, shape_at, is_raw_at}
 use Rattle.usb_prepare.specs.Prepared.{bindings_of}
 use Rattle.usb_prepare.specs.Layout.{urb_count, home}
-use Rattle.usb_line.specs.Prepared.{machine_of, owner_of, again_of}
-use Rattle.usb_line.specs.Run.{times_back, Giveback, done_at, asked_of}
+use Rattle.usb_line.specs.declared.owner.Owner.{Owner}
+use Rattle.usb_line.specs.Prepared.{machine_of, owner_of, again_of, origin_of}
+use Rattle.usb_line.specs.Run.{times_back, Giveback, done_at, is_out, asked_of}
 use Rattle.usb_line.specs.Between.{IsCalm, AllLinked, IsBare}
 use Rattle.usb_line.specs.Due.{is_ruled, heard_before}
 use Rattle.usb_line.specs.Given.{given_of, acked_at, IsReceived}
@@ -91,10 +94,11 @@ pub record ShowsDevices (s : Scene) (f : Progress) (devices : List Scripted) : T
   pub all : length devices ≡ length s.devices
   pub each : (d : ℕ) (scripted : Scripted) → slice_get devices d ≡ Some scripted → ShowsDevice s f d scripted
 
--- the core of each binding has seen what came back of its URBs
+-- the core of each binding has seen what came back of its URBs, and knows whether its question is out
 pub record ShowsCores (s : Scene) (rounds : List Giveback) (cores : List Core) : Type 0 where
   pub all : length cores ≡ length (bindings_of s)
-  pub each : (k : ℕ) (core : Core) (b : Bound) → slice_get cores k ≡ Some core → slice_get (bindings_of s) k ≡ Some b → IsCore b.driver (done_at s k rounds) core
+  pub each : (k : ℕ) (core : Core) (b : Bound) → slice_get cores k ≡ Some core → slice_get (bindings_of s) k ≡ Some b → IsCore b.driver (origin_of s k) (done_at s k rounds) core
+  pub out : (k : ℕ) (core : Core) → slice_get cores k ≡ Some core → is_asking core ≡ is_out s k rounds
 
 -- the run's object has come as far as f: its machine, its devices, endpoints and URBs, the cores of its drivers, and what came back
 pub record Shows (s : Scene) (f : Progress) (run : LineRun) : Type 0 where
@@ -126,13 +130,21 @@ pub record IsStood (plain : Plain) : Type 0 where
   pub history : List Entry
   pub stands : Stands plain (machine_of scene) history
 
-abbrev pub held : Option Transfer → ℕ
-held None = 0
-held (Some t) = 1
+-- a transfer of endpoint zero is followed by none, and another one perhaps by a question
+abbrev pub rank : Option Owner → ℕ
+rank o = option_map_or (λ (o : Owner). if is_ctl o.role then 1 else 2) o 2
 
--- at most so many turns give something back: what a driver reads again has used an item
+-- how many bytes of the buffer stand behind the window
+abbrev pub behind : Transfer → ℕ
+behind t = length t.buf - (t.from + t.len)
+
+abbrev pub held : Option Owner → Option Transfer → ℕ
+held o None = 0
+held o (Some t) = rank o + behind t
+
+-- at most so many turns give something back: what a driver reads again has used an item, and a job goes on behind its window
 abbrev pub turns_left : LineRun → ℕ
-turns_left run = sum_by (λ (row : UrbRow). row.again + held row.transfer) run.urbs.items + sum_by items_left run.devices.items
+turns_left run = sum_by (λ (row : UrbRow). row.again + held row.owner row.transfer) run.urbs.items + sum_by items_left run.devices.items
 
 -- what a turn did, by whether it gave back
 abbrev pub Turned : Scene → Progress → Bool → LineRun → Type 0

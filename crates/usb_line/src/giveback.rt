@@ -1,5 +1,5 @@
 //! The server gives an URB back, and its completion handler runs.
-ghost use Rattle.std.specs.Prelude.{◌≡◌, ◌<◌, ◌++◌, ℕ, List, true, length, slice_get, Some, IfOk};
+ghost use Rattle.std.specs.Prelude.{◌≡◌, ◌<◌, ◌++◌, ℕ, List, true, length, slice_get, Some, IfSome, IfOk};
 ghost use Rattle.usb_machine.specs.declared.entry.Entry.{Entry};
 ghost use Rattle.usb_machine.specs.Plain.{Stands, urbs_of};
 ghost use Rattle.usb_machine.specs.Shapes.{HasWindow};
@@ -8,17 +8,18 @@ ghost use Rattle.usb_line.specs.declared.run.UrbRow.{UrbRow};
 ghost use Rattle.usb_line.specs.Prepared.{machine_of};
 ghost use Rattle.usb_line.specs.Run.{Giveback, given_entries};
 ghost use Rattle.usb_line.specs.Steps.{AsMany};
-ghost use Rattle.usb_line.specs.Back.{is_again, CanNote, Noted, Finished, Acted, Resubmitted, Given as Gives, Handled, GaveBack};
+ghost use Rattle.usb_line.specs.Back.{is_again, CanNote, Noted, CanAsk, CanInquire, InquiryBy, PosesInquiry, CanSettle, Settled, Finished, Acted, Resubmitted, Given as Gives, Handled, GaveBack};
 
 use crate::made::{Given, Outcome};
 use crate::owner::Owner;
 use crate::received::{brought, left_with};
 use crate::run::{LineRun, UrbRow};
 use crate::steps::{code_in, enter};
+use crate::submit::ask;
 use std::alloc::Global;
 use usb_class::goes_again;
 use usb_machine::{Event, Plain, SERVER, Transfer};
-use usb_types::{Action, Code, Memory, UrbId};
+use usb_types::{Action, Code, Errno, Memory, UrbId};
 
 // Marks the URB as finished where its transfer ended with a code.
 fn finish(plain: &mut Plain, urb: UrbId, ended: Option<Code>)
@@ -56,26 +57,65 @@ fn resubmit(plain: &mut Plain, urb: UrbId, number: u64) -> Code
     code
 }
 
-// What the handler does: it submits the transfer with this number again, or rests it.
-fn act(plain: &mut Plain, urb: UrbId, again: bool, number: u64) -> Outcome
-    requires { urb.0 < urbs_of plain.old }
+/// A question of a driver, which it did not ask before: the place of its binding, the URB that it is asked with, its transfer,
+/// and why the URB's endpoint does not take it, if it does not.
+#[derive(Drop)]
+pub struct Inquiry {
+    pub place: u32,
+    pub urb: UrbId,
+    pub transfer: Transfer,
+    pub fault: Option<Errno>,
+}
+
+// Asks a question of a driver, where its endpoint takes it. Answers the fault, or what the gate says.
+fn pose(plain: &mut Plain, inquiry: &Inquiry) -> Code
+    requires { inquiry.now.urb.0 < urbs_of plain.old }
     ensures counts { AsMany plain.old plain.new }
-    ensures acted { Acted plain.old plain.new urb.0 again number result }
+    ensures asked { PosesInquiry plain.old plain.new inquiry.now result }
+{
+    if let Some(errno) = inquiry.fault {
+        return Code::Fault(errno);
+    }
+    ask(plain, SERVER, inquiry.urb, inquiry.transfer.number)
+}
+
+// What the handler does: it submits the transfer with this number again, or rests it, and asks a question where there is one.
+fn act(
+    plain: &mut Plain,
+    urb: UrbId,
+    again: bool,
+    number: u64,
+    inquiry: &Option<Inquiry>,
+) -> Outcome
+    requires known { urb.0 < urbs_of plain.old }
+    requires asks { IfSome inquiry.now (λ q. q.urb.0 < urbs_of plain.old) }
+    ensures counts { AsMany plain.old plain.new }
+    ensures acted { Acted plain.old plain.new urb.0 again number inquiry.now result }
 {
     if again {
         return Outcome::Again(resubmit(plain, urb, number));
     }
     enter(plain, SERVER, Event::Rest { urb, number });
-    Outcome::Rest
+    match inquiry {
+        Some(inquiry) => Outcome::Asked(pose(plain, inquiry)),
+        None => Outcome::Rest,
+    }
 }
 
 // Runs the handler of an URB that came back, which ends. Answers what it did.
-fn handle(plain: &mut Plain, urb: UrbId, again: bool, number: u64) -> Outcome
-    requires { urb.0 < urbs_of plain.old }
+fn handle(
+    plain: &mut Plain,
+    urb: UrbId,
+    again: bool,
+    number: u64,
+    inquiry: &Option<Inquiry>,
+) -> Outcome
+    requires known { urb.0 < urbs_of plain.old }
+    requires asks { IfSome inquiry.now (λ q. q.urb.0 < urbs_of plain.old) }
     ensures counts { AsMany plain.old plain.new }
-    ensures handled { Handled plain.old plain.new urb.0 again number result }
+    ensures handled { Handled plain.old plain.new urb.0 again number inquiry.now result }
 {
-    let outcome = act(plain, urb, again, number);
+    let outcome = act(plain, urb, again, number, inquiry);
     enter(plain, SERVER, Event::End { urb });
     outcome
 }
@@ -105,6 +145,41 @@ impl LineRun<'_> {
         }
     }
 
+    // The question of the driver that has the URB, where the action asks one that is not out.
+    fn inquiry(&mut self, owner: Option<Owner>, action: Action) -> Option<Inquiry>
+        requires core { CanInquire self.old.cores.items owner }
+        requires near { CanAsk self.old owner }
+        ensures asked { InquiryBy self.old self.new owner action result }
+        ensures rest { self.new ≡ record self.old { cores = self.new.cores } }
+    {
+        let (Action::Ask, Some(owner)) = (action, owner) else {
+            return None;
+        };
+        let urb = owner.ctl?;
+        let transfer = self.cores[owner.place as usize].ask()?;
+        Some(Inquiry {
+            place: owner.place,
+            urb,
+            fault: self.fault(urb, &transfer),
+            transfer,
+        })
+    }
+
+    // Keeps the transfer of a question that was accepted with its URB, and gives back one that was not.
+    fn settle(&mut self, inquiry: Option<Inquiry>, outcome: Outcome)
+        requires { CanSettle self.old inquiry }
+        ensures settled { Settled self.old self.new inquiry outcome }
+    {
+        let Some(inquiry) = inquiry else {
+            return;
+        };
+        if let Outcome::Asked(Code::Zero) = outcome {
+            self.urbs[inquiry.urb.0 as usize].transfer = Some(inquiry.transfer);
+        } else {
+            self.cores[inquiry.place as usize].unask(inquiry.transfer);
+        }
+    }
+
     /// Gives the URB back with its transfer, which ended with a code or was unlinked, and runs its handler.
     pub fn bring_back(
         &mut self,
@@ -117,6 +192,7 @@ impl LineRun<'_> {
         requires there { urb < length self.old.urbs.items }
         requires home { (row : UrbRow) → slice_get self.old.urbs.items urb ≡ Some row → row.home < length self.old.ends.items }
         requires core { (row : UrbRow) → slice_get self.old.urbs.items urb ≡ Some row → CanNote self.old.cores.items row.owner }
+        requires asks { (row : UrbRow) → slice_get self.old.urbs.items urb ≡ Some row → CanAsk self.old row.owner }
         requires window { HasWindow t }
         ensures back { IfOk result (λ _. GaveBack self.old self.new urb ended t) }
     {
@@ -124,7 +200,14 @@ impl LineRun<'_> {
         let (home, owner, again) = (row.home, row.owner, row.again);
         let status = give(&mut self.plain, UrbId(urb), ended);
         let action = self.decide(owner, again > 0, status, &t)?;
-        let outcome = handle(&mut self.plain, UrbId(urb), goes_again(action), t.number);
+        let inquiry = self.inquiry(owner, action);
+        let outcome = handle(
+            &mut self.plain,
+            UrbId(urb),
+            goes_again(action),
+            t.number,
+            &inquiry,
+        );
         let shape = self.ends[home as usize].shape;
         let bytes = brought(alloc, &shape, &t)?;
         self.ends[home as usize].received.note(&shape, &t)?;
@@ -141,6 +224,7 @@ impl LineRun<'_> {
             again: again.saturating_sub(1),
             transfer: left_with(outcome, action, t),
         };
+        self.settle(inquiry, outcome);
         Ok(())
     }
 }

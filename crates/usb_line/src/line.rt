@@ -3,7 +3,7 @@ ghost use Rattle.std.specs.Prelude.{◌≡◌, [], map, length, List, IfOk};
 ghost use Rattle.usb_scene.specs.declared.scene.Scene.{Scene};
 ghost use Rattle.usb_scene.specs.WellFormed.{IsWellFormed};
 ghost use Rattle.usb_prepare.specs.Bindings.{HaveHeard};
-ghost use Rattle.usb_prepare.specs.Prepared.{bindings_of, probes_of};
+ghost use Rattle.usb_prepare.specs.Prepared.{bindings_of, probes_of, ids_of};
 ghost use Rattle.usb_prepare.specs.Layout.{layout_of};
 ghost use Rattle.usb_prepare.specs.Ready.{AreReady};
 ghost use Rattle.usb_line.specs.Prepared.{calls_of};
@@ -17,12 +17,12 @@ use crate::prepare::opening;
 use crate::run::{EndReceived, EndRow, LineRun};
 use crate::thread::main_pass_of;
 use std::alloc::Global;
-use usb_bind::Bound;
+use usb_bind::{Board, Bound};
 use usb_class::{Core, Told};
 use usb_device::Scripted;
 use usb_machine::Layout;
 use usb_scene::Scene;
-use usb_types::{List, Memory};
+use usb_types::{Buf, List, Memory};
 
 /// What a run leaves for its report.
 #[derive(Drop)]
@@ -84,21 +84,23 @@ pub fn run_line(
     alloc: Global,
     scene: &Scene,
     devices: Vec<Scripted<'_>>,
-    bindings: &[Bound],
+    board: &Board,
+    ids: &[Buf],
     layout: &Layout,
 ) -> Result<LineOutcome, Memory>
     requires good { IsWellFormed scene.now }
     requires devices { AreReady scene.now.devices devices.items }
     requires heard { HaveHeard scene.now.devices (probes_of scene.now).heard devices.items }
-    requires bound { bindings.now ≡ bindings_of scene.now }
+    requires bound { board.now ≡ (probes_of scene.now).board }
+    requires ids { ids.now ≡ ids_of scene.now }
     requires layout { layout.now ≡ layout_of scene.now }
     ensures { IfOk result (IsOutcome scene.now) }
 {
     let main = main_pass_of(scene);
-    let mut run = opening(alloc, scene, devices, bindings, layout)?;
+    let mut run = opening(alloc, scene, devices, board, ids, layout)?;
     run.submit_reads(alloc, main)?;
     let mut made = List::of(Vec::new(alloc));
-    make_calls(alloc, scene, bindings, &mut run, &mut made)?;
+    make_calls(alloc, scene, board.bindings(), &mut run, &mut made)?;
     run.close(alloc, main)?;
     Ok(LineOutcome {
         made,

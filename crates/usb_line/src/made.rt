@@ -52,6 +52,8 @@ pub enum Outcome {
     Rest,
     /// It submitted the transfer again, with this answer.
     Again(Code),
+    /// It rested the transfer, and asked the question of its driver, with this answer.
+    Asked(Code),
 }
 
 /// What a Give gave back, as the report tells it.

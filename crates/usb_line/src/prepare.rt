@@ -1,27 +1,28 @@
 //! The run as it begins.
-ghost use Rattle.std.specs.Prelude.{◌≡◌, [], map, slice_get, None, IfOk};
+ghost use Rattle.std.specs.Prelude.{◌≡◌, ◌<◌, ◌^◌, [], map, length, slice_get, option_copied, None, IfOk};
 ghost use Rattle.usb_scene.specs.WellFormed.{IsWellFormed};
 ghost use Rattle.usb_prepare.specs.Below.{below};
-ghost use Rattle.usb_prepare.specs.Prepared.{bindings_of, probes_of};
+ghost use Rattle.usb_prepare.specs.Prepared.{probes_of, ids_of};
 ghost use Rattle.usb_prepare.specs.Bindings.{HaveHeard};
 ghost use Rattle.usb_prepare.specs.Ready.{AreReady};
 ghost use Rattle.usb_prepare.specs.Layout.{homes_of, layout_of, urb_count};
 ghost use Rattle.usb_line.specs.Prepared.{machine_of, again_in};
-ghost use Rattle.usb_line.specs.Opened.{IsNewEnd, AreNewEnds, AreNewCores, new_urb};
+ghost use Rattle.usb_line.specs.Opened.{IsNewEnd, AreNewEnds, number_in_rows, origin_in, IsNewCore, AreNewCores, new_urb};
 ghost use Rattle.usb_line.specs.Line.{at_start};
 ghost use Rattle.usb_line.specs.Shows.{Shows};
 ghost use Rattle.usb_machine.specs.History.{or_zero};
 ghost use Rattle.usb_machine.specs.Plain.{Stands};
 
 use crate::owner::{Owner, owner_in};
+use crate::reads::{FIRST, numbers};
 use crate::run::{EndRow, LineRun, Received, UrbRow};
 use std::alloc::{AllocError, Global};
-use usb_bind::Bound;
+use usb_bind::{Board, Bound};
 use usb_class::Core;
 use usb_device::Scripted;
 use usb_machine::{Layout, Plain, Shape};
 use usb_scene::{Scene, SceneUrb};
-use usb_types::{Buf, List, Memory};
+use usb_types::{Buf, List, Memory, Role, UrbId};
 
 // An endpoint where nothing waits.
 fn end_row(alloc: Global, shape: &Shape) -> EndRow
@@ -72,29 +73,69 @@ fn again(urbs: &[SceneUrb], urb: usize) -> u32
 fn urb_rows(
     alloc: Global,
     scene: &Scene,
-    bindings: &[Bound],
+    board: &Board,
     homes: &[Option<u32>],
 ) -> Result<Vec<UrbRow>, AllocError>
     requires good { IsWellFormed scene.now }
-    requires bound { bindings.now ≡ bindings_of scene.now }
+    requires bound { board.now ≡ (probes_of scene.now).board }
     requires homes { homes.now ≡ homes_of scene.now }
     ensures { IfOk result (λ urbs. urbs.items ≡ map (new_urb scene.now) (below (urb_count scene.now))) }
 {
     let mut urbs = Vec::new(alloc);
     for (u, home) in homes.iter().enumerate() {
-        let owner = owner_in(bindings, u as u32);
+        let owner = owner_in(board, u as u32);
         urbs.push(urb_row(*home, owner, again(scene.urbs.items(), u)))?;
     }
     Ok(urbs)
 }
 
+// The number of the transfer that is a driver's own with this URB, of those rows.
+fn number_of(urbs: &[UrbRow], urb: Option<UrbId>) -> u64
+    requires { length urbs.now < 2 ^ 32 }
+    ensures { result ≡ number_in_rows urbs.now urb }
+{
+    let Some(UrbId(urb)) = urb else {
+        return 0;
+    };
+    let mut number = FIRST;
+    for (u, row) in urbs.iter().enumerate() {
+        if u as u32 == urb {
+            break;
+        }
+        number += numbers(row.owner);
+    }
+    number
+}
+
+// The core of a driver that has seen nothing.
+fn new_core(alloc: Global, urbs: &[UrbRow], bound: &Bound, id: Option<&Buf>) -> Result<Core, Memory>
+    requires { length urbs.now < 2 ^ 32 }
+    ensures { IfOk result (λ core. IsNewCore (origin_in urbs.now bound.now (option_copied id.entry)) bound.now core) }
+{
+    let number = number_of(urbs, bound.urb(Role::Ctl));
+    let id = match id {
+        Some(id) => id.bytes(),
+        None => &[],
+    };
+    Core::new(alloc, bound.driver, number, bound.interface, id)
+}
+
 // The cores of drivers that have seen nothing.
-fn new_cores(alloc: Global, bindings: &[Bound]) -> Result<Vec<Core>, AllocError>
-    ensures { IfOk result (λ cores. AreNewCores bindings.now cores.items) }
+fn new_cores(
+    alloc: Global,
+    urbs: &[UrbRow],
+    bindings: &[Bound],
+    ids: &[Buf],
+) -> Result<Vec<Core>, Memory>
+    requires { length urbs.now < 2 ^ 32 }
+    ensures { IfOk result (λ cores. AreNewCores urbs.now bindings.now ids.now cores.items) }
 {
     let mut cores = Vec::new(alloc);
-    for bound in bindings {
-        cores.push(Core::new(alloc, bound.driver))?;
+    for (place, bound) in bindings.iter().enumerate() {
+        let core = new_core(alloc, urbs, bound, ids.get(place))?;
+        let Ok(()) = cores.push(core) else {
+            return Err(Memory);
+        };
     }
     Ok(cores)
 }
@@ -104,21 +145,27 @@ fn started<'a>(
     alloc: Global,
     scene: &Scene,
     devices: Vec<Scripted<'a>>,
-    bindings: &[Bound],
+    board: &Board,
+    ids: &[Buf],
     layout: &Layout,
     plain: Plain,
-) -> Result<LineRun<'a>, AllocError>
+) -> Result<LineRun<'a>, Memory>
     requires good { IsWellFormed scene.now }
     requires ready { AreReady scene.now.devices devices.items }
     requires heard { HaveHeard scene.now.devices (probes_of scene.now).heard devices.items }
-    requires bound { bindings.now ≡ bindings_of scene.now }
+    requires bound { board.now ≡ (probes_of scene.now).board }
+    requires ids { ids.now ≡ ids_of scene.now }
     requires layout { layout.now ≡ layout_of scene.now }
     requires stands { Stands plain (machine_of scene.now) [] }
     ensures { IfOk result (λ run. Shows scene.now at_start run) }
 {
-    let ends = end_rows(alloc, layout.shapes.items())?;
-    let urbs = urb_rows(alloc, scene, bindings, layout.homes.items())?;
-    let cores = new_cores(alloc, bindings)?;
+    let Ok(ends) = end_rows(alloc, layout.shapes.items()) else {
+        return Err(Memory);
+    };
+    let Ok(urbs) = urb_rows(alloc, scene, board, layout.homes.items()) else {
+        return Err(Memory);
+    };
+    let cores = new_cores(alloc, &urbs, board.bindings(), ids)?;
     Ok(LineRun {
         plain,
         devices,
@@ -135,20 +182,19 @@ pub fn opening<'a>(
     alloc: Global,
     scene: &Scene,
     devices: Vec<Scripted<'a>>,
-    bindings: &[Bound],
+    board: &Board,
+    ids: &[Buf],
     layout: &Layout,
 ) -> Result<LineRun<'a>, Memory>
     requires good { IsWellFormed scene.now }
     requires ready { AreReady scene.now.devices devices.items }
     requires heard { HaveHeard scene.now.devices (probes_of scene.now).heard devices.items }
-    requires bound { bindings.now ≡ bindings_of scene.now }
+    requires bound { board.now ≡ (probes_of scene.now).board }
+    requires ids { ids.now ≡ ids_of scene.now }
     requires layout { layout.now ≡ layout_of scene.now }
     ensures { IfOk result (λ run. Shows scene.now at_start run) }
 {
     let passes = scene.threads.items().len() as u32 + 1;
     let plain = Plain::new(alloc, layout, passes)?;
-    match started(alloc, scene, devices, bindings, layout, plain) {
-        Ok(run) => Ok(run),
-        Err(_) => Err(Memory),
-    }
+    started(alloc, scene, devices, board, ids, layout, plain)
 }

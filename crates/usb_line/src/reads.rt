@@ -10,12 +10,12 @@ use crate::owner::Owner;
 use crate::run::LineRun;
 use crate::submit::zeros;
 use std::alloc::Global;
-use usb_class::{has_number, read_size};
+use usb_class::has_number;
 use usb_machine::Transfer;
 use usb_types::{Memory, UrbId};
 
-// The number of the first transfer that is a driver's own.
-const FIRST: u64 = 2_000_000;
+/// The number of the first transfer that is a driver's own.
+pub const FIRST: u64 = 2_000_000;
 
 // The read that a driver keeps with its URB, if it does.
 fn read(alloc: Global, owner: Option<Owner>, number: u64) -> Result<Option<Transfer>, Memory>
@@ -24,7 +24,7 @@ fn read(alloc: Global, owner: Option<Owner>, number: u64) -> Result<Option<Trans
     let Some(owner) = owner else {
         return Ok(None);
     };
-    let Some(len) = read_size(owner.driver, owner.role) else {
+    let Some(len) = owner.size else {
         return Ok(None);
     };
     Ok(Some(Transfer {
@@ -38,8 +38,8 @@ fn read(alloc: Global, owner: Option<Owner>, number: u64) -> Result<Option<Trans
     }))
 }
 
-// How many numbers an URB's own transfers take.
-fn numbers(owner: Option<Owner>) -> u64
+/// How many numbers an URB's own transfers take.
+pub fn numbers(owner: Option<Owner>) -> u64
     ensures { result ≡ (if is_numbered_by owner then 1 else 0) }
 {
     match owner {

@@ -1,5 +1,5 @@
 //! The submits of a run in line order.
-ghost use Rattle.std.specs.Prelude.{◌≡◌, ◌<◌, ◌++◌, [], ℕ, List, length, slice_get, replicate, Some, IfOk};
+ghost use Rattle.std.specs.Prelude.{◌≡◌, ◌<◌, ◌^◌, ◌++◌, ℕ, List, length, slice_get, replicate, Some, IfOk};
 ghost use Rattle.usb_machine.specs.declared.entry.Entry.{Entry};
 ghost use Rattle.usb_machine.specs.declared.transfer.Transfer.{Transfer};
 ghost use Rattle.usb_machine.specs.Shapes.{shape_fault as fault_of};
@@ -8,12 +8,13 @@ ghost use Rattle.usb_machine.specs.History.{state_of};
 ghost use Rattle.usb_machine.specs.Calls.{submit_entries};
 ghost use Rattle.usb_machine.specs.Plain.{Stands, urbs_of};
 ghost use Rattle.usb_scene.specs.declared.scene.Scene.{Scene};
-ghost use Rattle.usb_scene.specs.WellFormed.{IsBuffer, IsWellFormed};
+ghost use Rattle.usb_scene.specs.WellFormed.{IsWellFormed};
 ghost use Rattle.usb_line.specs.declared.run.UrbRow.{UrbRow};
+ghost use Rattle.usb_line.specs.declared.run.EndRow.{EndRow};
 ghost use Rattle.usb_line.specs.declared.made.Deed.TheVariants as deed;
 ghost use Rattle.usb_prepare.specs.Ends.{shape_at};
 ghost use Rattle.usb_prepare.specs.Layout.{home};
-ghost use Rattle.usb_line.specs.Prepared.{machine_of, buffer_of, setup_by};
+ghost use Rattle.usb_line.specs.Prepared.{machine_of, buffer_of, setup_by, payload_by, window_by};
 ghost use Rattle.usb_line.specs.Line.{Progress};
 ghost use Rattle.usb_line.specs.Shows.{Shows};
 ghost use Rattle.usb_line.specs.Steps.{AsMany};
@@ -24,7 +25,7 @@ use crate::made::CallAnswer;
 use crate::run::LineRun;
 use crate::steps::{code_in, enter};
 use std::alloc::Global;
-use usb_class::setup_for;
+use usb_class::{payload_for, setup_for, window_for};
 use usb_machine::{Event, Plain, Transfer, shape_fault};
 use usb_scene::{Call, SceneUrb, Target};
 use usb_types::{Buf, Code, Errno, Memory, UrbId};
@@ -54,17 +55,6 @@ pub fn said_of(urbs: &[SceneUrb], urb: u32) -> Said
     }
 }
 
-// How many bytes a submit of the URB carries.
-fn size(said: Said, call: &Call) -> u32
-    requires { IsBuffer call.now.bytes }
-    ensures { result ≡ length (buffer_of said.len call.now.bytes) }
-{
-    match &call.bytes {
-        Some(bytes) => bytes.bytes().len() as u32,
-        None => said.len,
-    }
-}
-
 /// Some zero bytes.
 pub fn zeros(alloc: Global, len: u32) -> Result<Buf, Memory>
     ensures { IfOk result (λ buf. buf ≡ replicate len 0) }
@@ -75,48 +65,73 @@ pub fn zeros(alloc: Global, len: u32) -> Result<Buf, Memory>
     }
 }
 
-// What a submit of the URB carries: the bytes of the call, and without such bytes zeros.
-fn buffer(alloc: Global, said: Said, call: &Call) -> Result<Buf, Memory>
-    ensures { IfOk result (λ buf. buf ≡ buffer_of said.len call.now.bytes) }
+// The bytes that a call sends: those that it has for an interface, or else those that it says.
+fn payload(alloc: Global, call: &Call) -> Result<Option<Buf>, Memory>
+    ensures { IfOk result (λ payload. payload ≡ payload_by call.now.target call.now) }
 {
-    match &call.bytes {
-        Some(bytes) => {
+    match (call.target, &call.bytes) {
+        (Target::Interface { .. }, bytes) => payload_for(alloc, call.code, &call.numbers, bytes),
+        (_, Some(bytes)) => {
             let mut buf = Buf::of(Vec::new(alloc));
             buf.append(bytes.bytes())?;
-            Ok(buf)
+            Ok(Some(buf))
         }
+        (_, None) => Ok(None),
+    }
+}
+
+// What a submit of the URB carries: the bytes of the call, and without such bytes zeros.
+fn buffer(alloc: Global, said: Said, call: &Call) -> Result<Buf, Memory>
+    ensures { IfOk result (λ buf. buf ≡ buffer_of said.len (payload_by call.now.target call.now)) }
+{
+    match payload(alloc, call)? {
+        Some(buf) => Ok(buf),
         None => zeros(alloc, said.len),
     }
 }
 
 // The setup packet that a call sends: the one that it has for an interface, or else the one that it says.
 fn setup(call: &Call) -> Option<[u8; 8]>
-    ensures { result ≡ setup_by call.now.code call.now.target call.now.setup }
+    ensures { result ≡ setup_by call.now.target call.now }
 {
     match call.target {
-        Target::Interface { interface, .. } => setup_for(call.code, interface),
+        Target::Interface { interface, .. } => {
+            setup_for(call.code, interface, &call.numbers, &call.bytes)
+        }
         _ => call.setup,
     }
 }
 
-// The transfer that a submit of the URB sends, without its bytes.
-fn header(alloc: Global, said: Said, call: &Call) -> Transfer
-    requires { IsBuffer call.now.bytes }
-    ensures { result ≡ record (sent_by said call.now) { buf = [] } }
+// How many of so many bytes are the window of a call.
+fn window(call: &Call, len: u32) -> u32
+    ensures { result ≡ window_by call.now.target call.now len }
 {
+    match call.target {
+        Target::Interface { .. } => window_for(call.code, len),
+        _ => len,
+    }
+}
+
+// The transfer that a submit of the URB sends with this buffer.
+fn transfer(said: Said, call: &Call, buf: Buf) -> Transfer
+    requires small { length buf < 2 ^ 32 }
+    requires is { buf ≡ buffer_of said.len (payload_by call.now.target call.now) }
+    ensures { result ≡ sent_by said call.now }
+{
+    let len = window(call, buf.bytes().len() as u32);
     Transfer {
         setup: setup(call),
-        buf: Buf::of(Vec::new(alloc)),
+        buf,
         from: 0,
-        len: size(said, call),
+        len,
         short_not_ok: said.short,
         actual: 0,
         number: call.line as u64,
     }
 }
 
-// Asks the gate, and links the URB where it was accepted. Answers what the gate says.
-fn ask(plain: &mut Plain, pass: u32, urb: UrbId, number: u64) -> Code
+/// Asks the gate, and links the URB where it was accepted. Answers what the gate says.
+pub fn ask(plain: &mut Plain, pass: u32, urb: UrbId, number: u64) -> Code
     requires { urb.0 < urbs_of plain.old }
     ensures counts { AsMany plain.old plain.new }
     ensures asked { (s : Scene) (h : List Entry) (t : Transfer) → Stands plain.old (machine_of s) h → MayAsk s h pass urb.0 t → t.number ≡ number
@@ -135,7 +150,8 @@ impl LineRun<'_> {
     pub fn fault(&self, urb: UrbId, t: &Transfer) -> Option<Errno>
         requires there { urb.0 < length self.now.urbs.items }
         requires home { (row : UrbRow) → slice_get self.now.urbs.items urb.0 ≡ Some row → row.home < length self.now.ends.items }
-        ensures { (s : Scene) (f : Progress) → Shows s f self.now → result ≡ fault_of (shape_at s (home s urb.0)) t.now }
+        ensures exact { (row : UrbRow) (end : EndRow) → slice_get self.now.urbs.items urb.0 ≡ Some row → slice_get self.now.ends.items row.home ≡ Some end → result ≡ fault_of end.shape t.now }
+        ensures shown { (s : Scene) (f : Progress) → Shows s f self.now → result ≡ fault_of (shape_at s (home s urb.0)) t.now }
     {
         let home = self.urbs[urb.0 as usize].home;
         shape_fault(&self.ends[home as usize].shape, t)
@@ -163,7 +179,7 @@ impl LineRun<'_> {
         code
     }
 
-    /// Submits the URB by a call, where its endpoint takes the transfer. No memory is taken for one that it does not take.
+    /// Submits the URB by a call, where its endpoint takes the transfer.
     pub fn submit(
         &mut self,
         alloc: Global,
@@ -175,11 +191,10 @@ impl LineRun<'_> {
         requires { CanSubmit self.old pass urb.0 said call.now }
         ensures { IfOk result (λ told. (s : Scene) (f : Progress) (i : ℕ) → MayMake s f i call.now self.old pass (deed.Submit urb.0) → said_of (slice_get s.urbs urb.0) ≡ said → Made s f i call.now told self.new) }
     {
-        let mut t = header(alloc, said, call);
+        let t = transfer(said, call, buffer(alloc, said, call)?);
         if let Some(errno) = self.fault(urb, &t) {
             return Ok(CallAnswer::Code(Code::Fault(errno)));
         }
-        t.buf = buffer(alloc, said, call)?;
         Ok(CallAnswer::Code(self.send(pass, urb, t)))
     }
 }

@@ -11,7 +11,7 @@ use Rattle.usb_ctrl.specs.declared.fault.EnumFault.TheVariants as enum
 use Rattle.usb_bind.specs.declared.row.Driver.TheVariants as driver
 use Rattle.usb_bind.specs.declared.bound.Bound.{Bound}
 use Rattle.usb_hid.specs.declared.event.Event.TheVariants.{Down, Up, Led}
-use Rattle.usb_class.specs.declared.class_core.Told.TheVariants.{Keys, Nothing}
+use Rattle.usb_class.specs.declared.class_core.Told.TheVariants.{Keys, Serial}
 use Rattle.usb_scene.specs.declared.scene.Scene.{Scene}
 use Rattle.usb_scene.specs.declared.scene.SceneDevice.{SceneDevice}
 use Rattle.usb_scene.specs.declared.scene.Target.TheVariants as on
@@ -87,7 +87,7 @@ module _ (any : SceneDevice) where
   reported : text_of scene (found.Raw ∷ []) (modem ∷ [])
       (record { thread = 0; line = 7; code = 3; target = on.Role 1 0 Read0; answer = told.Buffer None } ∷ [])
       (record { urb = 0; status = Fault ENOENT; actual = 2; outcome = outcome.Again Zero; bytes = 0x0A ∷ 0xFF ∷ [] } ∷ [])
-      (Nothing ∷ [])
+      (Serial [] 0 ∷ [])
       []
       ≡ codes "thread t\n7 kill m.0.read0 none\ngiven\na -ENOENT 2 again 0 0AFF\ndriver m 0 cdc_acm\n"
   unfolding digits urb_name call_table
@@ -97,7 +97,7 @@ module _ (any : SceneDevice) where
   abbrev keyboard : Bound
   keyboard = record { driver = driver.Keyboard; device = 2; interface = 0; other = None; urbs = Some (record { 0 = 6 }) ∷ Some (record { 0 = 7 }) ∷ [] }
 
-  typed : drivers_section scene (modem ∷ keyboard ∷ []) (Nothing ∷ Keys (Down 0x0B ∷ Up 0x0B ∷ Down 0x01 ∷ Led 2 ∷ []) ∷ [])
+  typed : drivers_section scene (modem ∷ keyboard ∷ []) (Serial [] 0 ∷ Keys (Down 0x0B ∷ Up 0x0B ∷ Down 0x01 ∷ Led 2 ∷ []) ∷ [])
       ≡ codes "driver m 0 cdc_acm\ndriver k 0 usbkbd\ndown 0B h\nup 0B h\ndown 01 -\nled 02\n"
   unfolding digits usage_table
   typed = refl

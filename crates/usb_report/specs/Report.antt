@@ -21,6 +21,7 @@ use Rattle.usb_report.specs.Calls.{threads_text}
 abbrev pub outcome_text : Outcome → List ℕ
 outcome_text outcome.Rest = codes "rest"
 outcome_text (outcome.Again code) = codes "again " ++ code_text code
+outcome_text (outcome.Asked code) = codes "ask " ++ code_text code
 
 -- URB STATUS ACTUAL OUTCOME BYTES
 abbrev pub given_text : Scene → List Bound → Given → List ℕ

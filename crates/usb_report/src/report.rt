@@ -16,7 +16,7 @@ use usb_line::{CallMade, EndReceived, Given, Outcome};
 use usb_prepare::Found;
 use usb_scene::Scene;
 use usb_text::{push_hex, push_number, push_pairs};
-use usb_types::{Buf, Memory};
+use usb_types::{Buf, Code, Memory};
 
 // The words of a completion's line up to its length, each with the space behind it.
 fn push_result(
@@ -35,6 +35,14 @@ fn push_result(
     report.append(b" ")
 }
 
+// What the gate answered a handler, with the space behind it.
+fn push_answer(report: &mut Buf, code: Code) -> Result<(), Memory>
+    ensures { OnOk result (report.new ≡ report.old ++ code_text code ++ codes " ") }
+{
+    report.append(code.text().as_bytes())?;
+    report.append(b" ")
+}
+
 // What the handler did, with the space behind it.
 fn push_outcome(report: &mut Buf, outcome: Outcome) -> Result<(), Memory>
     ensures { OnOk result (report.new ≡ report.old ++ outcome_text outcome ++ codes " ") }
@@ -43,8 +51,11 @@ fn push_outcome(report: &mut Buf, outcome: Outcome) -> Result<(), Memory>
         Outcome::Rest => report.append(b"rest "),
         Outcome::Again(code) => {
             report.append(b"again ")?;
-            report.append(code.text().as_bytes())?;
-            report.append(b" ")
+            push_answer(report, code)
+        }
+        Outcome::Asked(code) => {
+            report.append(b"ask ")?;
+            push_answer(report, code)
         }
     }
 }

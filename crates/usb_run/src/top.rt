@@ -32,9 +32,10 @@ pub fn serial(alloc: Global, scene: &Scene, text: &mut Buf) -> Result<(), Memory
         devices,
         found,
         board,
+        ids,
         layout,
     } = prepare(alloc, scene)?;
-    let outcome = run_line(alloc, scene, devices, board.bindings(), &layout)?;
+    let outcome = run_line(alloc, scene, devices, &board, ids.items(), &layout)?;
     push_report(
         text,
         scene,

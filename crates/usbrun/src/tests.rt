@@ -5,5 +5,7 @@ mod class_scenes;
 mod devices;
 mod drivers;
 mod limits;
+mod printer_scenes;
 mod program;
 mod scenes;
+mod serial_scenes;

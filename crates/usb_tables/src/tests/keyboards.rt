@@ -2,62 +2,13 @@
 //!
 //! A word is an URB that came back. Bytes alone are a read that succeeded, and behind an errno one that failed; behind
 //! `led` they are lights that were sent, and behind `unled` lights that were not taken.
-ghost use Rattle.std.specs.Prelude.{IfOk};
-ghost use Rattle.usb_machine.specs.Shapes.{HasWindow};
-
+use crate::tests::completions::{errno, push_bytes, transfer};
 use std::alloc::Global;
 use std::process::Abort;
 use std::test::Fail;
 use usb_hid::{Event, Keyboard, led_setup};
-use usb_machine::Transfer;
-use usb_text::{cut, data_bytes, is_text, push_hex};
+use usb_text::{cut, data_bytes, is_text};
 use usb_types::{Action, Buf, Code, Errno, Memory, Role};
-
-/// A transfer that moved these bytes. Its window begins behind one byte of its buffer, and has room for one more.
-fn transfer(alloc: Global, moved: &[u8]) -> Result<Transfer, Fail>
-    ensures { IfOk result HasWindow }
-{
-    let mut buf = Buf::of(Vec::new(alloc));
-    buf.append(&[0xEE])?;
-    buf.append(moved)?;
-    buf.append(&[0xEE])?;
-    window(buf, moved.len())
-}
-
-/// A transfer whose window is the buffer without its first byte.
-fn window(buf: Buf, moved: usize) -> Result<Transfer, Fail>
-    ensures { IfOk result HasWindow }
-{
-    let (Ok(size), Ok(actual)) = (u32::try_from(buf.bytes().len()), u32::try_from(moved)) else {
-        return Err("more bytes than a buffer has".into());
-    };
-    if size <= actual {
-        return Err("fewer bytes than were moved".into());
-    }
-    Ok(Transfer {
-        setup: None,
-        buf,
-        from: 1,
-        len: size - 1,
-        short_not_ok: false,
-        actual,
-        number: 0,
-    })
-}
-
-fn errno(name: &[u8]) -> Result<Errno, Fail> {
-    let errnos = [
-        Errno::ENOENT,
-        Errno::EPIPE,
-        Errno::EPROTO,
-        Errno::EOVERFLOW,
-        Errno::ECONNRESET,
-        Errno::ESHUTDOWN,
-        Errno::EREMOTEIO,
-    ];
-    let errno = errnos.iter().find(|errno| is_text(name, errno.name()));
-    Ok(*errno.ok_or("no errno of this name")?)
-}
 
 /// What came back by a word in front of its bytes.
 fn kind(name: &[u8]) -> Result<(bool, Code), Fail> {
@@ -80,18 +31,9 @@ fn complete(alloc: Global, keyboard: &mut Keyboard, word: &[u8]) -> Result<Actio
         None => (false, Code::Zero, word),
     };
     let moved = data_bytes(alloc, digits)?.ok_or("no bytes")?;
-    let t = transfer(alloc, moved.bytes())?;
+    let t = transfer(alloc, None, moved.bytes())?;
     let role = if lights { Role::Ctl } else { Role::In };
     Ok(keyboard.complete(role, code, &t)?)
-}
-
-fn push_event(text: &mut Buf, word: &str, byte: u8) -> Result<(), Memory> {
-    if !text.bytes().is_empty() {
-        text.append(b" ")?;
-    }
-    text.append(word.as_bytes())?;
-    text.append(b" ")?;
-    push_hex(text, &[byte])
 }
 
 /// The events as a report tells them, on one line and without names.
@@ -99,9 +41,9 @@ fn text_of(alloc: Global, events: &[Event]) -> Result<Buf, Memory> {
     let mut text = Buf::of(Vec::new(alloc));
     for event in events {
         match event {
-            Event::Down { code } => push_event(&mut text, "down", *code)?,
-            Event::Up { code } => push_event(&mut text, "up", *code)?,
-            Event::Led { lights } => push_event(&mut text, "led", *lights)?,
+            Event::Down { code } => push_bytes(&mut text, "down", &[*code])?,
+            Event::Up { code } => push_bytes(&mut text, "up", &[*code])?,
+            Event::Led { lights } => push_bytes(&mut text, "led", &[*lights])?,
         }
     }
     Ok(text)

@@ -2,7 +2,7 @@
 use std::alloc::Global;
 use std::process::Abort;
 use std::test::Fail;
-use usb_statement::{Statement, UrbName, UrbOption, read_keyword, read_statement};
+use usb_statement::{InterfaceCall, Statement, UrbName, UrbOption, read_keyword, read_statement};
 use usb_text::next_word;
 use usb_types::{Memory, Role};
 use usb_xfer::What;
@@ -51,6 +51,21 @@ fn good_lines(rt: HostRuntime) -> Result<(), Fail> {
         "unpoison a",
         "block a",
         "unblock a",
+        "led kbd 0 02",
+        "led kbd 999999999 fF # too large is another cause",
+        "write m 0 -",
+        "write m 007 41 - fill:16384:ff 42",
+        "coding m 0 0 0 0 5",
+        "coding m 0 999999999 2 4 16",
+        "coding m 0 9600 000 001 08",
+        "coding m 0 9600 3 5 7 # too large is another cause",
+        "control m 0 03",
+        "sendbreak m 0 0",
+        "sendbreak m 0 65536 # too large is another cause",
+        "print p 0 -",
+        "print p 0 41 - fill:16384:ff 42",
+        "status p 0",
+        "softreset p 999999999 # too large is another cause",
         "\tserve ",
         "down",
         "up",
@@ -106,6 +121,38 @@ fn bad_lines(rt: HostRuntime) -> Result<(), Fail> {
         "submit kbd.0.out",
         "submit a.b",
         "kill a b",
+        "led kbd 0",
+        "led kbd 0 2",
+        "led kbd -1 02",
+        "led kbd 0 02 02",
+        "write m 0",
+        "write m 41",
+        "write m 0 4",
+        "write m 0 41 fill:0:00",
+        "write m 0 fill:16385:00",
+        "write M 0 41",
+        "coding m 0 9600 0 0",
+        "coding m 0 9600 0 0 4",
+        "coding m 0 9600 0 0 9",
+        "coding m 0 9600 0 0 17",
+        "coding m 0 9600 0 0 x8",
+        "coding m 0 9600 none 0 8",
+        "coding m 0 1234567890 0 0 8",
+        "coding m 0 9600 0 0 8 8",
+        "control m 0",
+        "control m 0 003",
+        "control m 0 03 00",
+        "sendbreak m 0",
+        "sendbreak m 0 1000000000",
+        "sendbreak m 0 5 5",
+        "break m 0 5",
+        "print p 0",
+        "print p 0 4",
+        "status p",
+        "status p 0 0",
+        "softreset p",
+        "softreset p 0 -",
+        "reset p 0",
         "serve a",
         "scene 1",
     ];
@@ -196,5 +243,59 @@ fn a_setup_packet_comes_first(rt: HostRuntime) -> Result<(), Fail> {
         [0x80, 0x06, 0x00, 0x01, 0x02, 0x00, 0x0A, 0xFF].as_slice()
     );
     assert!(rt; matches!(&bytes, Some(bytes) if bytes.bytes().is_empty()));
+    Ok(())
+}
+
+// What a line carries that calls an interface.
+fn carried(alloc: Global, line: &str) -> Result<Option<InterfaceCall>, Memory> {
+    match said(alloc, line)? {
+        Some(Statement::OnInterface { call, .. }) => Ok(Some(call)),
+        _ => Ok(None),
+    }
+}
+
+#[test]
+fn calls_on_serial_ports_carry_their_words(rt: HostRuntime) -> Result<(), Fail> {
+    let alloc = rt.alloc();
+    let write = carried(alloc, "write m 0 41 - fill:3:0d 42")?;
+    assert!(rt;
+        matches!(
+            &write,
+            Some(InterfaceCall::Write { bytes }) if bytes.bytes() == [0x41, 13, 13, 13, 0x42].as_slice()
+        )
+    );
+    let coding = carried(alloc, "coding m 0 115200 2 4 08")?;
+    assert!(rt;
+        matches!(
+            coding,
+            Some(InterfaceCall::Coding {
+                rate: 115200,
+                stop: 2,
+                parity: 4,
+                bits: 8
+            })
+        )
+    );
+    let control = carried(alloc, "control m 0 fE")?;
+    assert!(rt; matches!(control, Some(InterfaceCall::Control { lines: 0xFE })));
+    let pause = carried(alloc, "sendbreak m 0 00250")?;
+    assert!(rt; matches!(pause, Some(InterfaceCall::SendBreak { ms: 250 })));
+    Ok(())
+}
+
+#[test]
+fn calls_on_printers_carry_their_words(rt: HostRuntime) -> Result<(), Fail> {
+    let alloc = rt.alloc();
+    let print = carried(alloc, "print p 0 1b 40 fill:2:41")?;
+    assert!(rt;
+        matches!(
+            &print,
+            Some(InterfaceCall::Print { bytes }) if bytes.bytes() == [0x1B, 0x40, 0x41, 0x41].as_slice()
+        )
+    );
+    let status = carried(alloc, "status p 0")?;
+    assert!(rt; matches!(status, Some(InterfaceCall::Status)));
+    let reset = carried(alloc, "softreset p 0")?;
+    assert!(rt; matches!(reset, Some(InterfaceCall::SoftReset)));
     Ok(())
 }

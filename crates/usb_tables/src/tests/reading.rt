@@ -140,3 +140,140 @@ fn causes_print_their_names(rt: HostRuntime) -> Result<(), Fail> {
     assert_eq!(rt; printed.as_str(), "HubOnly");
     Ok(())
 }
+
+const SERIAL: &str = "scene 1\ndevice d raw\ndevice k keyboard\ndevice m acm\nthread t\n";
+
+// The cause against a call in a thread, where a raw device, a keyboard and a serial adapter are declared.
+fn cause_of(alloc: Global, call: &str) -> Result<Option<Cause>, Fail> {
+    let text = format!(in alloc; "{SERIAL}{call}")?;
+    Ok(fault(alloc, text.as_str()).map(|(_, cause)| cause))
+}
+
+fn aimed(device: u32, interface: u8) -> Target {
+    Target::Interface { device, interface }
+}
+
+#[test]
+fn calls_on_serial_ports_are_kept(rt: HostRuntime) -> Result<(), Fail> {
+    let text =
+        "scene 1\ndevice k keyboard\ndevice m acm\nthread t\nwrite m 0 41 fill:2:42\ncoding m 1 115200 2 4 16\ncontrol m 255 fE\nsendbreak k 0 65535";
+    let scene = read(rt.alloc(), text)?;
+    let threads = scene.threads.items();
+    assert_eq!(rt; threads.len(), 1);
+    let [write, coding, control, pause] = threads[0].calls.items() else {
+        return Err("not four calls".into());
+    };
+    assert_eq!(rt;
+        (write.line, write.code, write.target),
+        (5, 24, aimed(1, 0))
+    );
+    assert_eq!(rt; write.numbers, [0; 4]);
+    assert!(rt; write.setup.is_none());
+    assert!(rt;
+        matches!(&write.bytes, Some(bytes) if bytes.bytes() == [0x41, 0x42, 0x42].as_slice())
+    );
+    assert_eq!(rt;
+        (coding.line, coding.code, coding.target),
+        (6, 25, aimed(1, 1))
+    );
+    assert_eq!(rt; coding.numbers, [115200, 2, 4, 16]);
+    assert!(rt; coding.bytes.is_none());
+    assert_eq!(rt;
+        (control.line, control.code, control.target),
+        (7, 26, aimed(1, 255))
+    );
+    assert_eq!(rt; control.numbers, [0; 4]);
+    assert!(rt; matches!(&control.bytes, Some(bytes) if bytes.bytes() == [0xFE].as_slice()));
+    assert_eq!(rt;
+        (pause.line, pause.code, pause.target),
+        (8, 27, aimed(0, 0))
+    );
+    assert_eq!(rt; pause.numbers, [65535, 0, 0, 0]);
+    assert!(rt; pause.bytes.is_none());
+    Ok(())
+}
+
+#[test]
+fn causes_against_calls_on_serial_ports(rt: HostRuntime) -> Result<(), Fail> {
+    let calls = [
+        ("write m 0 fill:16384:00 -", None),
+        ("coding m 0 999999999 2 4 16", None),
+        ("write m 0", Some(Cause::Form)),
+        ("coding d 256 9600 3 0 9", Some(Cause::Form)),
+        ("coding d 256 9600 3 0 8", Some(Cause::Name)),
+        ("write none 0 41", Some(Cause::Name)),
+        ("control d 0 03", Some(Cause::Name)),
+        ("write m 256 41", Some(Cause::Limit)),
+        ("write m 0 fill:16384:00 00", Some(Cause::Limit)),
+        (
+            "write m 0 fill:16384:00 fill:16384:00 fill:16384:00 fill:16384:00 00",
+            Some(Cause::Limit),
+        ),
+        ("coding m 0 9600 3 0 8", Some(Cause::Limit)),
+        ("coding m 0 9600 0 5 8", Some(Cause::Limit)),
+        ("sendbreak m 0 65536", Some(Cause::Limit)),
+        ("break m 0 5", Some(Cause::Word)),
+    ];
+    for (call, cause) in calls {
+        assert_eq!(rt; cause_of(rt.alloc(), call)?, cause, "{call}");
+    }
+    assert_eq!(rt;
+        fault(rt.alloc(), "scene 1\ndevice m acm\nwrite m 0 41"),
+        Some((3, Cause::Word))
+    );
+    Ok(())
+}
+
+#[test]
+fn calls_on_printers_are_kept(rt: HostRuntime) -> Result<(), Fail> {
+    let text =
+        "scene 1\ndevice p printer\nthread t\nprint p 0 41 fill:2:42\nstatus p 1\nsoftreset p 255";
+    let scene = read(rt.alloc(), text)?;
+    let threads = scene.threads.items();
+    assert_eq!(rt; threads.len(), 1);
+    let [print, status, reset] = threads[0].calls.items() else {
+        return Err("not three calls".into());
+    };
+    assert_eq!(rt;
+        (print.line, print.code, print.target),
+        (4, 28, aimed(0, 0))
+    );
+    assert!(rt;
+        matches!(&print.bytes, Some(bytes) if bytes.bytes() == [0x41, 0x42, 0x42].as_slice())
+    );
+    assert_eq!(rt;
+        (status.line, status.code, status.target),
+        (5, 29, aimed(0, 1))
+    );
+    assert!(rt; status.bytes.is_none());
+    assert_eq!(rt;
+        (reset.line, reset.code, reset.target),
+        (6, 30, aimed(0, 255))
+    );
+    assert!(rt; reset.bytes.is_none());
+    assert_eq!(rt; reset.numbers, [0; 4]);
+    Ok(())
+}
+
+#[test]
+fn causes_against_calls_on_printers(rt: HostRuntime) -> Result<(), Fail> {
+    let calls = [
+        ("print m 0 -", None),
+        ("print k 255 fill:16384:00", None),
+        ("status k 0", None),
+        ("softreset m 0 # any device with drivers", None),
+        ("print m 0", Some(Cause::Form)),
+        ("status m 0 0", Some(Cause::Form)),
+        ("softreset m", Some(Cause::Form)),
+        ("print d 256 41", Some(Cause::Name)),
+        ("status none 0", Some(Cause::Name)),
+        ("softreset d 0", Some(Cause::Name)),
+        ("print m 0 fill:16384:00 00", Some(Cause::Limit)),
+        ("status m 256", Some(Cause::Limit)),
+        ("softreset m 256", Some(Cause::Limit)),
+    ];
+    for (call, cause) in calls {
+        assert_eq!(rt; cause_of(rt.alloc(), call)?, cause, "{call}");
+    }
+    Ok(())
+}

@@ -205,8 +205,8 @@ fn lights_are_set_on_an_interface(rt: HostRuntime) -> Result<(), Fail> {
             "led k 255 fF\nled k 000 0a # caps\nled p 0 02\nfoo",
             "9: Word",
         ),
-        ("write k 0 00", "6: Word"),
-        ("coding k 0 9600 0 0 8", "6: Word"),
+        ("write k 0", "6: Form"),
+        ("coding k 0 9600 3 0 8", "6: Limit"),
     ];
     check_bad(
         &rt,

@@ -173,11 +173,11 @@ fn the_gallery_of_devices_of_a_class(rt: HostRuntime) -> Result<(), Fail> {
         ),
         (
             "# A serial port of the CDC ACM class. The union descriptor (24, 06) of interface 0 names interface 1 as its data\n# interface; the driver takes both, and has its URBs by the first.\nscene 1\ndevice m acm\nconfig 090243000201008032 090400000102020100 0524001001 0524010001 04240202 0524060001 07058203080010 09040100020A000000 07050102400000 07058102400000\nthread t\nkill m.0.note\nkill m.0.read1\nkill m.1.read1\n",
-            "device m 1209:0001\ninterface 0 comm 02/02/01 cdc_acm\ninterface 1 cdcdata 0A/00/00 cdc_acm\nthread t\n7 kill m.0.note none\n8 kill m.0.read1 none\n9 kill m.1.read1 -ENODEV\ndriver m 0 cdc_acm\n",
+            "device m 1209:0001\ninterface 0 comm 02/02/01 cdc_acm\ninterface 1 cdcdata 0A/00/00 cdc_acm\nthread t\n7 kill m.0.note buffer 2000000\n8 kill m.0.read1 buffer 2000002\n9 kill m.1.read1 -ENODEV\ngiven\nm.0.note -ENOENT 0 rest -\nm.0.read1 -ENOENT 0 rest -\nm.0.read0 -ENOENT 0 rest -\ndriver m 0 cdc_acm\n",
         ),
         (
             "# A printer, whose driver asks for its id when it probes. The id begins with its own length, high byte first.\nscene 1\ndevice prn printer\nconfig 09022000010100C000 090400000207010200 07050102400000 07058202400000\nid 00084D46473A413B\nport 18\nthread t\nkill prn.0.write\n",
-            "device prn 1209:0001\ninterface 0 printer 07/01/02 usblp\nthread t\n8 kill prn.0.write none\ndriver prn 0 usblp\n",
+            "device prn 1209:0001\ninterface 0 printer 07/01/02 usblp\nthread t\n8 kill prn.0.write none\ndriver prn 0 usblp\nid MFG:A;\n",
         ),
         (
             "# One device with four interfaces: a keyboard, a mouse, which no driver takes, storage, and a printer. Its descriptor gives\n# the vendor 046D and the product C52B. A raw device beside it is not listed.\nscene 1\ndevice box keyboard\ndesc 12010002 00000040 6D042BC5 11120102 0001\nconfig 09025000040100A032 090400000103010100 0705810308000A 090401000103010200 0705820308000A 090402000208065000 07058302400000 07050302400000 090403000107010100 07050402400000\ndevice d raw\nep 81 bulk 64 0\nanswer 81 p:0102\nurb a d 81 len 8\nthread t\nsubmit a\nserve\nkill box.3.write\n",
@@ -189,7 +189,7 @@ fn the_gallery_of_devices_of_a_class(rt: HostRuntime) -> Result<(), Fail> {
         ),
         (
             "# Interfaces that no driver gets: what it needs is missing, its other interface is taken, or the device does not answer\n# the driver's requests.\nscene 1\ndevice a keyboard             # the endpoint is not an interrupt endpoint\nconfig 09021900010100A032 090400000103010100 0705810208000A\ndevice b keyboard             # the first request of the driver is not answered; a stall would be passed over\nconfig 09021900010100A032 090400000103010100 0705810308000A\nanswer 00 error\ndevice c acm                  # two ports with one data interface\nconfig 09024A00030100A032 090400000102020100 0524060001 07058203080010 09040100020A000000 07050102400000 07058102400000 090402000102020100 0524060001 07058303080010\n",
-            "device a 1209:0001\ninterface 0 hid 03/01/01 none\ndevice b 1209:0001\ninterface 0 hid 03/01/01 fail\ndevice c 1209:0001\ninterface 0 comm 02/02/01 cdc_acm\ninterface 1 cdcdata 0A/00/00 cdc_acm\ninterface 2 comm 02/02/01 busy\ndriver c 0 cdc_acm\n",
+            "device a 1209:0001\ninterface 0 hid 03/01/01 none\ndevice b 1209:0001\ninterface 0 hid 03/01/01 fail\ndevice c 1209:0001\ninterface 0 comm 02/02/01 cdc_acm\ninterface 1 cdcdata 0A/00/00 cdc_acm\ninterface 2 comm 02/02/01 busy\ngiven\nc.0.note -ENOENT 0 rest -\nc.0.read0 -ENOENT 0 rest -\nc.0.read1 -ENOENT 0 rest -\ndriver c 0 cdc_acm\n",
         ),
     ];
     check_reports(&rt, "", "", Status::Done, "", &rows)

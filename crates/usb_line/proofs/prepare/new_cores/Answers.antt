@@ -1,7 +1,15 @@
+use Rattle.std.proofs.Common.{get_or, subst}
+use Rattle.usb_line.specs.Opened.{origin_in, IsNewCore}
 use Rattle.usb_line.proofs.Owners.{no_bound}
-use Rattle.usb_line.proofs.Opening.{cores_longer}
+use Rattle.usb_line.proofs.Opening.{lent, cores_longer}
 use Rattle.usb_line.proofs.prepare.new_cores.Goals as goal
 
-pub loop-bound-preserved : goal.loop-bound-preserved
-loop-bound-preserved c = cores_longer c.args.bindings.now c.loop-bound.bound-index no_bound c.loop-bound.cores.items c.push.new.self.items c.new.result c.loop-bound-test.true c.loop-bound.invariant
-    c.new.ensures c.in_ok-push.ensures.items
+pub loop-place-preserved : goal.loop-place-preserved
+loop-place-preserved c =
+    let rows = c.args.urbs.now in
+    let bindings = c.args.bindings.now in
+    let ids = c.args.ids.now in
+    let k = c.loop-place.place in
+    let core = c.in_ok-core.core in
+    cores_longer rows bindings ids k no_bound c.loop-place.cores.items c.push.new.self.items core c.loop-place-test.true c.loop-place.invariant
+    (subst (λ id. IsNewCore (origin_in rows (get_or bindings k no_bound) id) (get_or bindings k no_bound) core) (lent ids k c.get.result c.get.ensures.lookup) c.in_ok-core.ensures) c.in-Ok.ensures.items

@@ -2,5 +2,5 @@ use Rattle.std.proofs.Common.{take}
 use Rattle.usb_line.specs.Opened.{AreNewCores}
 use Rattle.usb_line.proofs.prepare.new_cores.Given as goal
 
-abbrev pub invariant-loop-bound : goal.invariant-loop-bound
-invariant-loop-bound l = AreNewCores (take l.bound-index l.bindings) l.cores.items
+abbrev pub invariant-loop-place : goal.invariant-loop-place
+invariant-loop-place l = AreNewCores l.urbs (take l.place l.bindings) l.ids l.cores.items

@@ -1,6 +1,6 @@
-use Rattle.std.proofs.Common.{◌≡◌, ◌<◌, ◌^◌, ℕ, Option, None, List, length, get_or, ap, subst, ◌∙◌, arith}
+use Rattle.std.proofs.Common.{◌≡◌, ℕ, Option, None, List, length, get_or, ap, ◌∙◌, arith}
 use Rattle.usb_machine.specs.History.{or_zero}
-use Rattle.usb_bind.specs.declared.bound.Bound.{Bound}
+use Rattle.usb_bind.specs.Board.{BoardValue}
 use Rattle.usb_prepare.specs.Prepared.{bindings_of}
 use Rattle.usb_prepare.specs.Layout.{urb_count}
 use Rattle.usb_prepare.proofs.Facts.{few_urbs, bindings_few}
@@ -17,7 +17,7 @@ overflow_cast-u c =
 pub owner_in-owner-requires : goal.owner_in-owner-requires
 owner_in-owner-requires c =
     let few = bindings_few c.args.scene.now c.requires.good in
-    let all : length c.args.bindings.now ≡ length (bindings_of c.args.scene.now) = ap (λ (l : List Bound). length l) c.requires.bound in
+    let all : length c.args.board.now.bindings ≡ length (bindings_of c.args.scene.now) = ap (λ (b : BoardValue). length b.bindings) c.requires.bound in
     record { few = omega arith }
 
 pub loop-u-preserved : goal.loop-u-preserved

@@ -7,7 +7,7 @@ use Rattle.usb_run.proofs.top.serial.Goals as goal
 
 pub push_report-requires : goal.push_report-requires
 push_report-requires c =
-    let found = c.items.ensures ∙ c.in_ok-devices.ensures.found in
+    let found = c.items-2.ensures ∙ c.in_ok-devices.ensures.found in
     record {
       devices = subst (λ (l : List Found). length l < 2 ^ 32) (sym found) (few_found c.args.scene.now c.requires);
       threads = (let few = c.requires.few_threads in omega arith);
@@ -16,10 +16,10 @@ push_report-requires c =
 pub returns : goal.returns
 returns c =
     let s = c.args.scene.now in let p = c.in_ok-devices.ensures in let o = c.in_ok-outcome.ensures in
-    let found = c.items.ensures ∙ p.found in let bound = c.bindings-2.ensures.bindings ∙ p.bound in
-    let made = c.items-2.ensures ∙ o.made in let given = c.items-3.ensures ∙ o.given in let told = c.items-4.ensures ∙ o.told in let ends = c.items-5.ensures ∙ o.ends in
+    let found = c.items-2.ensures ∙ p.found in let bound = c.bindings.ensures.bindings ∙ (λ j. (p.board j).bindings) in
+    let made = c.items-3.ensures ∙ o.made in let given = c.items-4.ensures ∙ o.given in let told = c.items-5.ensures ∙ o.told in let ends = c.items-6.ensures ∙ o.ends in
     record {
-      text = text_of s c.items.result.now c.bindings-2.result.now c.items-2.result.now c.items-3.result.now c.items-4.result.now c.items-5.result.now;
+      text = text_of s c.items-2.result.now c.bindings.result.now c.items-3.result.now c.items-4.result.now c.items-5.result.now c.items-6.result.now;
       printed = record {
         far = o.far;
         line = o.line;

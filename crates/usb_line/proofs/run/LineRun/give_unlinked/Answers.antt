@@ -35,16 +35,20 @@ pub bring_back-requires-clause-core : goal.bring_back-requires-clause-core
 bring_back-requires-clause-core c = let q = c.requires in let out = c.take_out.ensures in
     (can_bring q.scene q.far c.args.self.now c.take_out.new.self q.shows q.good c.args.urb out.row out.at out.rows (λ i. length (out.same_ends i).items) out.same.plain out.same.cores).core
 
+pub bring_back-requires-clause-asks : goal.bring_back-requires-clause-asks
+bring_back-requires-clause-asks c = let q = c.requires in let out = c.take_out.ensures in
+    (can_bring q.scene q.far c.args.self.now c.take_out.new.self q.shows q.good c.args.urb out.row out.at out.rows (λ i. length (out.same_ends i).items) out.same.plain out.same.cores).asks
+
 pub bring_back-requires-clause-window : goal.bring_back-requires-clause-window
 bring_back-requires-clause-window c = let q = c.requires in let out = c.take_out.ensures in
     (held_transfer q.scene q.far c.args.self.now q.shows c.args.urb out.row c.in-Some.t out.at (sym c.in-Some.is ∙ out.is)).window
 
 pub returns-clause-falls : goal.returns-clause-falls
 returns-clause-falls c = let q = c.requires in
-    unlinked_falls q.scene q.far c.args.self.now c.take_out.new.self c.bring_back.new.self q.shows c.args.urb c.in-Some.t
+    unlinked_falls q.scene q.good q.far c.args.self.now c.take_out.new.self c.bring_back.new.self q.shows c.args.urb c.in-Some.t
     (subst (λ (o : Option Transfer). TakesOut c.args.self.now c.take_out.new.self c.args.urb o) c.in-Some.is c.take_out.ensures) c.in_ok-bring_back.ensures.back q.first
 
 pub returns-clause-given : goal.returns-clause-given
 returns-clause-given c = λ s f good shows first.
-    gave_unlinked s f c.args.self.now c.take_out.new.self c.bring_back.new.self shows c.args.urb c.in-Some.t
+    gave_unlinked s good f c.args.self.now c.take_out.new.self c.bring_back.new.self shows c.args.urb c.in-Some.t
     (subst (λ (o : Option Transfer). TakesOut c.args.self.now c.take_out.new.self c.args.urb o) c.in-Some.is c.take_out.ensures) c.in_ok-bring_back.ensures.back first

@@ -82,6 +82,12 @@ bring_back-requires-clause-core c = let q = c.requires.unmarked in let run = c.a
     c.in-Some-take_out.t (subst (λ (o : Option Transfer). TakesOut run c.take_out.new.self c.in-Some.urb o) c.in-Some-take_out.is c.take_out.ensures)
     c.move_on.new.self c.move_on.new.t c.move_on.result c.move_on.ensures).core
 
+pub bring_back-requires-clause-asks : goal.bring_back-requires-clause-asks
+bring_back-requires-clause-asks c = let q = c.requires.unmarked in let run = c.args.self.now in
+    (moved_can_bring q.scene q.good q.far run c.take_out.new.self q.shows c.args.ep c.in-Some.urb (subst (FirstAwake q.scene q.far c.args.ep) c.in-Some.is (c.first_awake.ensures q.scene q.far q.shows))
+    c.in-Some-take_out.t (subst (λ (o : Option Transfer). TakesOut run c.take_out.new.self c.in-Some.urb o) c.in-Some-take_out.is c.take_out.ensures)
+    c.move_on.new.self c.move_on.new.t c.move_on.result c.move_on.ensures).asks
+
 pub returns-clause-falls : goal.returns-clause-falls
 returns-clause-falls c = let q = c.requires.unmarked in let run = c.args.self.now in
     falls_ending q.scene q.good q.far run c.take_out.new.self q.shows c.args.ep c.in-Some.urb (subst (FirstAwake q.scene q.far c.args.ep) c.in-Some.is (c.first_awake.ensures q.scene q.far q.shows))

@@ -1,15 +1,18 @@
-use Rattle.std.proofs.Common.{◌≡◌, Some, None, sym, ap, ◌∙◌}
+use Rattle.std.proofs.Common.{ℕ, ◌≡◌, ◌<◌, ◌^◌, Some, None, List, length, sym, ap, subst, ◌∙◌}
 use Rattle.usb_machine.specs.declared.transfer.Transfer.{Transfer}
 use Rattle.usb_machine.specs.Shapes.{shape_fault}
 use Rattle.usb_prepare.specs.Ends.{shape_at}
 use Rattle.usb_prepare.specs.Layout.{home}
 use Rattle.usb_line.specs.Prepared.{fresh}
 use Rattle.usb_line.proofs.Lookups.{none_of}
-use Rattle.usb_line.proofs.Submitted.{few_bytes, row_near, end_near, known, fresh_is, fault_is, made_fault, may_send, made_sent}
+use Rattle.usb_line.proofs.Submitted.{sent_few, row_near, end_near, known, fresh_is, fault_is, made_fault, may_send, made_sent}
 use Rattle.usb_line.proofs.run.LineRun.submit.Goals as goal
 
-pub header-t-requires : goal.header-t-requires
-header-t-requires c = few_bytes c.requires.scene c.requires.far c.requires.thread c.args.call.now c.args.self.now c.args.pass c.args.urb.0 c.requires.may
+pub transfer-t-requires : goal.transfer-t-requires
+transfer-t-requires c = record {
+  small = subst (λ (l : List ℕ). length l < 2 ^ 32) (sym c.in_ok-buffer.ensures) (sent_few c.requires.scene c.requires.far c.requires.thread c.args.call.now c.args.self.now c.args.pass c.args.urb.0 c.requires.may c.args.said c.requires.is);
+  is = c.in_ok-buffer.ensures;
+}
 
 pub fault-requires-clause-there : goal.fault-requires-clause-there
 fault-requires-clause-there c = row_near c.requires.scene c.requires.far c.requires.thread c.args.call.now c.args.self.now c.args.pass c.args.urb.0 c.requires.may
@@ -26,7 +29,7 @@ send-requires-clause-there c = row_near c.requires.scene c.requires.far c.requir
 pub returns-in-Some : goal.returns-in-Some
 returns-in-Some c = λ s f i may is.
     let u = c.args.urb.0 in
-    let seen = sym c.in-Some.is ∙ (c.fault.ensures s f may.shows ∙ ap (shape_fault (shape_at s (home s u))) c.header-t.ensures) in
+    let seen = sym c.in-Some.is ∙ (c.fault.ensures.shown s f may.shows ∙ ap (shape_fault (shape_at s (home s u))) c.transfer-t.ensures) in
     made_fault s f i c.args.call.now c.args.self.now c.args.pass u may c.in-Some.errno
     (fault_is s f i c.args.call.now c.args.self.now c.args.pass u may c.args.said is (Some c.in-Some.errno) seen)
 
@@ -34,9 +37,9 @@ pub returns : goal.returns
 returns c = λ s f i may is.
     let u = c.args.urb.0 in
     let none : c.fault.result ≡ None = none_of c.fault.result c.in_default.not-Some in
-    let seen = sym none ∙ (c.fault.ensures s f may.shows ∙ ap (shape_fault (shape_at s (home s u))) c.header-t.ensures) in
+    let seen = sym none ∙ (c.fault.ensures.shown s f may.shows ∙ ap (shape_fault (shape_at s (home s u))) c.transfer-t.ensures) in
     let fault = fault_is s f i c.args.call.now c.args.self.now c.args.pass u may c.args.said is None seen in
-    let t : Transfer = record c.header-t.result { buf = c.in_ok-t.field-0 } in
-    let sent : t ≡ fresh s u c.args.call.now = (λ j. record (c.header-t.ensures j) { buf = c.in_ok-t.ensures j }) ∙ sym (fresh_is s f i c.args.call.now c.args.self.now c.args.pass u may c.args.said is) in
+    let t : Transfer = c.transfer-t.result in
+    let sent : t ≡ fresh s u c.args.call.now = c.transfer-t.ensures ∙ sym (fresh_is s f i c.args.call.now c.args.self.now c.args.pass u may c.args.said is) in
     made_sent s f i c.args.call.now c.args.self.now c.args.pass u may t sent fault c.send.result c.send.new.self
     (c.send.ensures s f (may_send s f i c.args.call.now c.args.self.now c.args.pass u may t sent fault))

@@ -1,4 +1,4 @@
-use Rattle.std.proofs.Common.{◌≡◌, Some, sym, ◌∙◌}
+use Rattle.std.proofs.Common.{sym, ◌∙◌}
 use Rattle.usb_line.specs.Reads.{read_below}
 use Rattle.usb_line.proofs.Reading.{row_near, end_near, known, shows_none, shows_fault, may_send, shows_read}
 use Rattle.usb_line.proofs.run.LineRun.submit_read.Goals as goal
@@ -21,11 +21,11 @@ returns-in_default c = λ s may. shows_none s c.args.self.now c.args.pass c.args
 pub returns-in-Some-fault : goal.returns-in-Some-fault
 returns-in-Some-fault c = λ s may.
     shows_fault s c.args.self.now c.args.pass c.args.urb c.args.owner c.args.number may c.in-Some.t (sym c.in-Some.is ∙ c.in_ok-t.ensures) _
-    (sym (c.fault.ensures s (read_below s c.args.urb) may.shows) ∙ c.in-Some-fault.is)
+    (sym (c.fault.ensures.shown s (read_below s c.args.urb) may.shows) ∙ c.in-Some-fault.is)
 
 pub returns : goal.returns
 returns c = λ s may.
     let is = sym c.in-Some.is ∙ c.in_ok-t.ensures in
-    let none = sym (c.fault.ensures s (read_below s c.args.urb) may.shows) ∙ c.in_default-fault.is in
+    let none = sym (c.fault.ensures.shown s (read_below s c.args.urb) may.shows) ∙ c.in_default-fault.is in
     shows_read s c.args.self.now c.args.pass c.args.urb c.args.owner c.args.number may c.in-Some.t is none c.send.result c.send.new.self
     (c.send.ensures s (read_below s c.args.urb) (may_send s c.args.self.now c.args.pass c.args.urb c.args.owner c.args.number may c.in-Some.t is none))

@@ -23,5 +23,5 @@ loop-self-preserved c = record {
   so_far = λ s f good shows loud stops.
       (let m = c.loop-self.invariant.so_far s f good shows loud stops in
       let gave = subst (λ (b : Bool). Turned s m.0 b c.turn.new.self) c.if-not-branch.false (c.in_ok-turn.ensures.turned s m.0 good m.2) in
-      (gave.0, goes_on m.0 gave.0 m.1 gave.1 (sym (c.is_quiet.ensures s gave.0 gave.2) ∙ c.if-is_quiet.false), gave.2, stop_gives c.args.urb s m.0 gave.0 gave.1 m.3));
+      (gave.0, goes_on m.0 gave.0 m.1 gave.1 (sym (c.is_quiet.ensures s gave.0 gave.2) ∙ c.if-is_quiet.false), gave.2, stop_gives c.args.urb s good m.0 gave.0 gave.1 m.3));
 }

@@ -1,0 +1,504 @@
+-- What a driver's core knows of its question, and which question a giveback asks.
+use Rattle.std.proofs.Common.{ℕ, zero, suc, ◌≡◌, ◌<◌, ◌≢◌, ◌&&◌, ◌||◌, Bool, true, false, cond, eqb, Option, Some, None, List, [], ◌∷◌, ◌++◌, length, refl, sym, ap, ◌∙◌, subst, append-nil, eq-eqb, ne_eqb}
+use Rattle.std.specs.Prelude.{slice_get, slice_set, filter_map, option_and_then, is_some, IfSome}
+use Rattle.std.specs.Option.{option_map_or}
+use Rattle.std.specs.Vec.{vec_len}
+use mathlib.Core.Logic.{dite}
+use native.Mathlib.Decide.{ℕ_discrete}
+use Rattle.std.proofs.lemmas.List.{length-set}
+use Rattle.std.proofs.lemmas.Option.{slice_get_within}
+use Rattle.std.proofs.lemmas.List.Sums.{fold-append}
+use Rattle.std.proofs.lemmas.List.Elements.{filter_map-append}
+use Rattle.usb_types.specs.declared.errno.Code.{Code}
+use Rattle.usb_types.specs.declared.errno.Code.TheVariants.{Zero, Fault}
+use Rattle.usb_types.specs.declared.urb.UrbId.{UrbId}
+use Rattle.usb_types.specs.declared.urb.Role.TheVariants.{Write}
+use Rattle.usb_types.specs.declared.urb.Action.{Action}
+use Rattle.usb_types.specs.declared.urb.Action.TheVariants as action
+use Rattle.usb_machine.specs.declared.transfer.Transfer.{Transfer}
+use Rattle.usb_machine.specs.declared.entry.Entry.{Entry}
+use Rattle.usb_machine.specs.State.{refusal}
+use Rattle.usb_machine.specs.History.{state_of}
+use Rattle.usb_machine.specs.declared.plain.Plain.{Plain}
+use Rattle.usb_machine.specs.Plain.{urbs_of}
+use Rattle.usb_machine.specs.Shapes.{shape_fault}
+use Rattle.usb_bind.specs.declared.bound.Bound.{Bound}
+use Rattle.usb_bind.specs.declared.row.Driver.{Driver}
+use Rattle.usb_bind.specs.declared.row.Driver.TheVariants.{Keyboard, Acm, Printer}
+use Rattle.usb_class.specs.declared.class_core.Core.{Core}
+use Rattle.usb_class.specs.Done.{Done}
+use Rattle.usb_class.specs.Origin.{Origin}
+use Rattle.usb_class.specs.Roles.{role_in}
+use Rattle.usb_class.specs.Asking.{question_by, is_answer, still_out}
+use Rattle.usb_class.specs.Handler.{action_of, is_ctl}
+use Rattle.usb_class.specs.Core.{IsCore, is_asking, CanUnask}
+use Rattle.usb_class.proofs.Facts.{asks_by}
+use Rattle.usb_scene.specs.declared.scene.Scene.{Scene}
+use Rattle.usb_prepare.specs.Ends.{shape_at}
+use Rattle.usb_prepare.specs.Layout.{home}
+use Rattle.usb_prepare.specs.Prepared.{bindings_of}
+use Rattle.usb_line.specs.declared.owner.Owner.{Owner}
+use Rattle.usb_line.specs.declared.made.Outcome.TheVariants as outcome
+use Rattle.usb_line.specs.declared.giveback.Inquiry.{Inquiry}
+use Rattle.usb_line.specs.declared.run.UrbRow.{UrbRow}
+use Rattle.usb_line.specs.declared.run.EndRow.{EndRow}
+use Rattle.usb_line.specs.declared.run.LineRun.{LineRun}
+use Rattle.usb_line.specs.Prepared.{owner_of, origin_of, Asking, asking_with, asking_by, asking_of}
+use Rattle.usb_line.specs.Run.{Giveback, moved_in, action_by, is_accepted, out_after, is_out, question_out, asks_or_rests, done_in, done_at}
+use Rattle.usb_line.specs.Line.{submit_answer, outcome_by}
+use Rattle.usb_line.specs.Shows.{ShowsCores}
+use Rattle.usb_line.specs.Back.{Noted, CanAsk, CanInquire, CanSettle, GaveInquiry, InquiryOf, InquiryWith, InquiryBy, Settled, IsPosedBy, ArePosed}
+use Rattle.usb_line.proofs.Owners.{owner_bound}
+use Rattle.usb_line.proofs.Lookups.{each_set}
+
+-- the cores have seen so much each, and their questions are out or not
+pub record HasCores (s : Scene) (done : ℕ → List Done) (outs : ℕ → Bool) (cores : List Core) : Type 0 where
+  pub all : length cores ≡ length (bindings_of s)
+  pub each : (k : ℕ) (core : Core) (b : Bound) → slice_get cores k ≡ Some core → slice_get (bindings_of s) k ≡ Some b → IsCore b.driver (origin_of s k) (done k) core
+  pub out : (k : ℕ) (core : Core) → slice_get cores k ≡ Some core → is_asking core ≡ outs k
+
+-- with another core at one place
+has_set : (s : Scene) (done more : ℕ → List Done) (out now : ℕ → Bool) (old new : List Core) (p : ℕ) (core : Core) (b : Bound) → HasCores s done out old → new ≡ slice_set old p core
+    → slice_get (bindings_of s) p ≡ Some b → IsCore b.driver (origin_of s p) (more p) core → is_asking core ≡ now p → ((j : ℕ) → j ≢ p → (more j ≡ done j) × (now j ≡ out j)) → HasCores s more now new
+has_set s done more out now old new p core b has is bound seen asking others = record {
+  all = ap (λ l. length l) is ∙ (length-set old p core ∙ has.all);
+  each = λ k c d at held. each_set (λ j c. (d : Bound) → slice_get (bindings_of s) j ≡ Some d → IsCore d.driver (origin_of s j) (done j) c) (λ j c. (d : Bound) → slice_get (bindings_of s) j ≡ Some d → IsCore d.driver (origin_of s j) (more j) c)
+      old new p core is (λ j c at d held. has.each j c d at held)
+      (λ d held. let both : Some b ≡ Some d = sym bound ∙ held in let same : b ≡ d = cc in subst (λ (d : Bound). IsCore d.driver (origin_of s p) (more p) core) same seen)
+      (λ j c off old d held. subst (λ l. IsCore d.driver (origin_of s j) l c) (sym (others j off).0) (old d held))
+      k c at d held;
+  out = each_set (λ j c. is_asking c ≡ out j) (λ j c. is_asking c ≡ now j) old new p core is has.out asking (λ j c off old. old ∙ sym (others j off).1);
+}
+
+has_same : (s : Scene) (done more : ℕ → List Done) (out now : ℕ → Bool) (old new : List Core) → HasCores s done out old → new ≡ old → ((j : ℕ) → (more j ≡ done j) × (now j ≡ out j)) → HasCores s more now new
+has_same s done more out now old new has is others = record {
+  all = ap (λ l. length l) is ∙ has.all;
+  each = λ k c b at held. subst (λ l. IsCore b.driver (origin_of s k) l c) (sym (others k).0) (has.each k c b (ap (λ l. slice_get l k) (sym is) ∙ at) held);
+  out = λ k c at. has.out k c (ap (λ l. slice_get l k) (sym is) ∙ at) ∙ sym (others k).1;
+}
+
+-- a place is the owner's, or another one
+module _ (s : Scene) (rounds : List Giveback) (r : Giveback) where
+  abbrev before : ℕ → Bool
+  before j = is_out s j rounds
+
+  -- what the drivers hear of the giveback
+  heard_none : (j : ℕ) → done_in s j r ≡ None → done_at s j (rounds ++ r ∷ []) ≡ done_at s j rounds
+  heard_none j is = filter_map-append (done_in s j) rounds (r ∷ []) ∙ (ap (λ (o : Option Done). done_at s j rounds ++ filter_map (λ (x : Giveback). o) (r ∷ [])) is ∙ append-nil (done_at s j rounds))
+
+  heard_one : (j : ℕ) (d : Done) → done_in s j r ≡ Some d → done_at s j (rounds ++ r ∷ []) ≡ done_at s j rounds ++ d ∷ []
+  heard_one j d is = filter_map-append (done_in s j) rounds (r ∷ []) ∙ ap (λ (o : Option Done). done_at s j rounds ++ filter_map (λ (x : Giveback). o) (r ∷ [])) is
+
+  -- whether a question is out behind it
+  out_push : (j : ℕ) → is_out s j (rounds ++ r ∷ []) ≡ out_after s j (before j) r
+  out_push j = fold-append (out_after s j) false rounds (r ∷ [])
+
+  abbrev heard_as : Owner → Done
+  heard_as o = record { role = o.role; status = r.status; transfer = moved_in s r }
+
+  abbrev heard_by : ℕ → Option Owner → Option Done
+  heard_by j o = option_and_then (λ (o : Owner). cond (eqb o.place j) (Some (heard_as o)) None) o
+
+  abbrev answered_at : ℕ → Option Owner → Bool
+  answered_at j o = option_map_or (λ (o : Owner). eqb o.place j && is_answer o.driver (origin_of s j) o.role (moved_in s r)) o false
+
+  abbrev put_at : ℕ → Option Owner → Bool
+  put_at j o = option_map_or (λ (o : Owner). eqb o.place j && is_accepted r.outcome) o false
+
+  or_false : (b : Bool) → (b || false) ≡ b
+  or_false true = refl
+  or_false false = refl
+
+  or_true : (b : Bool) → (b || true) ≡ true
+  or_true true = refl
+  or_true false = refl
+
+  and_false : (b : Bool) → (b && false) ≡ false
+  and_false true = refl
+  and_false false = refl
+
+  abbrev out_by : ℕ → Bool → Bool → Bool
+  out_by j answered put = cond answered false (before j || put)
+
+  -- where no driver has the URB, nothing changes
+  pub unowned : owner_of s r.urb ≡ None → (old new : List Core) → ShowsCores s rounds old → new ≡ old → ShowsCores s (rounds ++ r ∷ []) new
+  unowned none old new shows is =
+      let has = has_same s (λ j. done_at s j rounds) (λ j. done_at s j (rounds ++ r ∷ [])) before (λ j. is_out s j (rounds ++ r ∷ [])) old new record { all = shows.all; each = shows.each; out = shows.out } is
+      (λ j. (heard_none j (ap (heard_by j) none), out_push j ∙ ((λ i. out_by j (answered_at j (none i)) (put_at j (none i))) ∙ or_false (before j)))) in
+      record { all = has.all; each = has.each; out = has.out }
+
+  -- where a driver has it
+  module _ (o : Owner) (is : owner_of s r.urb ≡ Some o) where
+    abbrev bound : (b : Bound) × (slice_get (bindings_of s) o.place ≡ Some b) × (b.driver ≡ o.driver) × (role_in r.urb b ≡ Some o.role)
+    bound = owner_bound s r.urb o is
+
+    abbrev answered : Bool
+    answered = is_answer o.driver (origin_of s o.place) o.role (moved_in s r)
+
+    now_out : (j : ℕ) → is_out s j (rounds ++ r ∷ []) ≡ out_by j (eqb o.place j && is_answer o.driver (origin_of s j) o.role (moved_in s r)) (eqb o.place j && is_accepted r.outcome)
+    now_out j = out_push j ∙ (λ i. out_by j (answered_at j (is i)) (put_at j (is i)))
+
+    out_else : (j : ℕ) → j ≢ o.place → is_out s j (rounds ++ r ∷ []) ≡ before j
+    out_else j off = now_out j ∙ (ap (λ w. out_by j (w && is_answer o.driver (origin_of s j) o.role (moved_in s r)) (w && is_accepted r.outcome)) (ne_eqb o.place j (λ e. off (sym e))) ∙ or_false (before j))
+
+    out_here : is_out s o.place (rounds ++ r ∷ []) ≡ out_by o.place answered (is_accepted r.outcome)
+    out_here = now_out o.place ∙ ap (λ w. out_by o.place (w && is_answer o.driver (origin_of s o.place) o.role (moved_in s r)) (w && is_accepted r.outcome)) (eq-eqb o.place o.place refl)
+
+    heard_else : (j : ℕ) → j ≢ o.place → done_at s j (rounds ++ r ∷ []) ≡ done_at s j rounds
+    heard_else j off = heard_none j (ap (heard_by j) is ∙ ap (λ w. cond w (Some (heard_as o)) None) (ne_eqb o.place j (λ e. off (sym e))))
+
+    heard_here : done_at s o.place (rounds ++ r ∷ []) ≡ done_at s o.place rounds ++ heard_as o ∷ []
+    heard_here = heard_one o.place (heard_as o) (ap (heard_by o.place) is ∙ ap (λ w. cond w (Some (heard_as o)) None) (eq-eqb o.place o.place refl))
+
+    -- its core took note, and then its question stood so
+    abbrev noted_out : ℕ → Bool
+    noted_out j = cond (eqb o.place j) (cond answered false (before o.place)) (before j)
+
+    abbrev Now : (ℕ → Bool) → List Core → Type 0
+    Now out cores = HasCores s (λ j. done_at s j (rounds ++ r ∷ [])) out cores
+
+    at_here : (b : Bool) (x : ℕ → Bool) → cond (eqb o.place o.place) b (x o.place) ≡ b
+    at_here b x = ap (λ w. cond w b (x o.place)) (eq-eqb o.place o.place refl)
+
+    at_else : (j : ℕ) → j ≢ o.place → (b : Bool) (x : ℕ → Bool) → cond (eqb o.place j) b (x j) ≡ x j
+    at_else j off b x = ap (λ w. cond w b (x j)) (ne_eqb o.place j (λ e. off (sym e)))
+
+    module _ (old new : List Core) (shows : ShowsCores s rounds old) (may : Bool) (act : Action) (noted : Noted old new (Some o) may r.status (moved_in s r) act) where
+      took : (act ≡ action_of bound.0.driver o.role r.status (moved_in s r)) × IsCore bound.0.driver (origin_of s o.place) (done_at s o.place rounds ++ heard_as o ∷ []) noted.1
+          × (is_asking noted.1 ≡ still_out bound.0.driver (origin_of s o.place) o.role (moved_in s r) (is_asking noted.0))
+      took = noted.4 bound.0.driver (origin_of s o.place) (done_at s o.place rounds) (shows.each o.place noted.0 bound.0 noted.2 bound.1)
+
+      pub noted_action : act ≡ action_by (Some o) may r.status (moved_in s r)
+      noted_action = took.0 ∙ ap (λ (driver : Driver). action_of driver o.role r.status (moved_in s r)) bound.2
+
+      pub noted_cores : Now noted_out new
+      noted_cores = has_set s (λ j. done_at s j rounds) (λ j. done_at s j (rounds ++ r ∷ [])) before noted_out old new o.place noted.1 bound.0 record { all = shows.all; each = shows.each; out = shows.out } noted.3
+          bound.1 (subst (λ l. IsCore bound.0.driver (origin_of s o.place) l noted.1) (sym heard_here) took.1)
+          (took.2 ∙ ((λ i. still_out (bound.2 i) (origin_of s o.place) o.role (moved_in s r) (shows.out o.place noted.0 noted.2 i)) ∙ sym (at_here (cond answered false (before o.place)) before)))
+          (λ j off. (heard_else j off, at_else j off (cond answered false (before o.place)) before))
+
+    -- without a question that was accepted, that is how it stands
+    unasked_out : is_accepted r.outcome ≡ false → (j : ℕ) → is_out s j (rounds ++ r ∷ []) ≡ noted_out j
+    unasked_out none j = dite (ℕ_discrete j o.place)
+        (λ same. subst (λ j. is_out s j (rounds ++ r ∷ []) ≡ noted_out j) (sym same)
+        (out_here ∙ (ap (λ b. out_by o.place answered b) none ∙ (ap (λ b. cond answered false b) (or_false (before o.place)) ∙ sym (at_here (cond answered false (before o.place)) before)))))
+        (λ off. out_else j off ∙ sym (at_else j off (cond answered false (before o.place)) before))
+
+    pub unasked : (old new : List Core) → Now noted_out old → new ≡ old → is_accepted r.outcome ≡ false → ShowsCores s (rounds ++ r ∷ []) new
+    unasked old new has same none =
+        let now = has_same s (λ j. done_at s j (rounds ++ r ∷ [])) (λ j. done_at s j (rounds ++ r ∷ [])) noted_out (λ j. is_out s j (rounds ++ r ∷ [])) old new has same (λ j. (refl, unasked_out none j)) in
+        record { all = now.all; each = now.each; out = now.out }
+
+    -- another core at its place, which has seen the same
+    pub replaced : (old new : List Core) (core after : Core) (x : Bool) → Now noted_out old → slice_get old o.place ≡ Some core → new ≡ slice_set old o.place after
+        → (IsCore bound.0.driver (origin_of s o.place) (done_at s o.place (rounds ++ r ∷ [])) core → IsCore bound.0.driver (origin_of s o.place) (done_at s o.place (rounds ++ r ∷ [])) after)
+        → is_asking after ≡ x → Now (λ j. cond (eqb o.place j) x (before j)) new
+    replaced old new core after x has at set keeps asking = has_set s (λ j. done_at s j (rounds ++ r ∷ [])) (λ j. done_at s j (rounds ++ r ∷ [])) noted_out (λ j. cond (eqb o.place j) x (before j)) old new o.place after bound.0 has set
+        bound.1 (keeps (has.each o.place core bound.0 at bound.1)) (asking ∙ sym (at_here x before)) (λ j off. (refl, at_else j off x before ∙ sym (at_else j off (cond answered false (before o.place)) before)))
+
+    pub replaced_again : (old new : List Core) (core after : Core) (x y : Bool) → Now (λ j. cond (eqb o.place j) x (before j)) old → slice_get old o.place ≡ Some core → new ≡ slice_set old o.place after
+        → (IsCore bound.0.driver (origin_of s o.place) (done_at s o.place (rounds ++ r ∷ [])) core → IsCore bound.0.driver (origin_of s o.place) (done_at s o.place (rounds ++ r ∷ [])) after)
+        → is_asking after ≡ y → Now (λ j. cond (eqb o.place j) y (before j)) new
+    replaced_again old new core after x y has at set keeps asking = has_set s (λ j. done_at s j (rounds ++ r ∷ [])) (λ j. done_at s j (rounds ++ r ∷ [])) (λ j. cond (eqb o.place j) x (before j)) (λ j. cond (eqb o.place j) y (before j)) old new o.place after bound.0 has set
+        bound.1 (keeps (has.each o.place core bound.0 at bound.1)) (asking ∙ sym (at_here y before)) (λ j off. (refl, at_else j off y before ∙ sym (at_else j off x before)))
+
+    -- so the cores show the run, where the question is as out as the giveback says
+    pub settled_cores : (new : List Core) (x : Bool) → Now (λ j. cond (eqb o.place j) x (before j)) new → x ≡ out_by o.place answered (is_accepted r.outcome) → ShowsCores s (rounds ++ r ∷ []) new
+    settled_cores new x has is =
+        let now = has_same s (λ j. done_at s j (rounds ++ r ∷ [])) (λ j. done_at s j (rounds ++ r ∷ [])) (λ j. cond (eqb o.place j) x (before j)) (λ j. is_out s j (rounds ++ r ∷ [])) new new has refl
+        (λ j. (
+          refl,
+          dite (ℕ_discrete j o.place)
+              (λ same. subst (λ j. is_out s j (rounds ++ r ∷ []) ≡ cond (eqb o.place j) x (before j)) (sym same) (out_here ∙ (sym is ∙ sym (at_here x before))))
+              (λ off. out_else j off ∙ sym (at_else j off x before)),
+        )) in
+        record { all = now.all; each = now.each; out = now.out }
+
+-- what a giveback asks, and what its driver's core then knows
+pub record IsInquired (s : Scene) (rounds : List Giveback) (r : Giveback) (asking : LineRun) (q : Option Inquiry) : Type 0 where
+  pub posed : ArePosed s r q
+  pub cores : (acted new : LineRun) → acted.cores ≡ asking.cores → Settled acted new q r.outcome → ShowsCores s (rounds ++ r ∷ []) new.cores.items
+
+-- a job's transfer is no question
+write_unanswered : (driver : Driver) (origin : Origin) (t : Transfer) → is_answer driver origin Write t ≡ false
+write_unanswered Keyboard origin t = refl
+write_unanswered Acm origin t = refl
+write_unanswered Printer origin t = refl
+
+-- the URB of a question is there, with its endpoint
+abbrev pub IsSeen : Scene → LineRun → UrbId → Type 0
+IsSeen s run urb = (row : UrbRow) × (end : EndRow) × (slice_get run.urbs.items urb.0 ≡ Some row) × (slice_get run.ends.items row.home ≡ Some end) × (end.shape ≡ shape_at s (home s urb.0))
+
+module _ (s : Scene) (rounds : List Giveback) (r : Giveback) (h : List Entry) where
+  -- what the handler does, by what its driver says
+  did_again : (asking : Option Asking) (out : Bool) (from len : ℕ) → outcome_by s h r.urb asking (asks_or_rests asking out (action.Again from len)) ≡ outcome.Again (refusal (state_of h r.urb))
+  did_again None true from len = refl
+  did_again None false from len = refl
+  did_again (Some a) true from len = refl
+  did_again (Some a) false from len = refl
+
+  did_rest : (asking : Option Asking) (out : Bool) → outcome_by s h r.urb asking (asks_or_rests asking out action.Rest) ≡ outcome.Rest
+  did_rest None true = refl
+  did_rest None false = refl
+  did_rest (Some a) true = refl
+  did_rest (Some a) false = refl
+
+  did_none : (out : Bool) → outcome_by s h r.urb None (asks_or_rests None out action.Ask) ≡ outcome.Rest
+  did_none true = refl
+  did_none false = refl
+
+  did_out : (asking : Option Asking) → outcome_by s h r.urb asking (asks_or_rests asking true action.Ask) ≡ outcome.Rest
+  did_out None = refl
+  did_out (Some a) = refl
+
+  -- where no driver has the URB, nothing is asked
+  pub inquired_none : (old : List Core) (decided asking : LineRun) (q : Option Inquiry) (may : Bool) (act : Action) → owner_of s r.urb ≡ None → ShowsCores s rounds old → decided.cores.items ≡ old
+      → act ≡ action_by None may r.status (moved_in s r) → InquiryBy decided asking None act q
+      → r.outcome ≡ outcome_by s h r.urb (asking_of s r.urb) (asks_or_rests (asking_of s r.urb) (question_out s rounds (owner_of s r.urb)) act) → IsInquired s rounds r asking q
+  inquired_none old decided asking q may act none shows same acts by did = record {
+    posed = posed;
+    cores = λ acted new cores settled. unowned s rounds r none old new.cores.items shows
+        (settled_none acted new (subst (λ q. Settled acted new q r.outcome) by.0 settled) ∙ ((λ i. (cores i).items) ∙ ((λ i. (by.1 i).items) ∙ same)));
+  }
+    where
+      settled_none : (acted new : LineRun) → Settled acted new None r.outcome → new.cores.items ≡ acted.cores.items
+      settled_none acted new is = (λ i. (is i).cores.items)
+
+      go : (b : Bool) → act ≡ action_by None b r.status (moved_in s r) → ArePosed s r q
+      go true is = subst (λ o. IsPosedBy s (asking_of s r.urb) o q)
+          (sym (did ∙ (ap (λ a. outcome_by s h r.urb (asking_of s r.urb) (asks_or_rests (asking_of s r.urb) (question_out s rounds (owner_of s r.urb)) a)) is ∙ did_again (asking_of s r.urb) (question_out s rounds (owner_of s r.urb)) (moved_in s r).from (moved_in s r).len))) tt
+      go false is = subst (λ o. IsPosedBy s (asking_of s r.urb) o q)
+          (sym (did ∙ (ap (λ a. outcome_by s h r.urb (asking_of s r.urb) (asks_or_rests (asking_of s r.urb) (question_out s rounds (owner_of s r.urb)) a)) is ∙ did_rest (asking_of s r.urb) (question_out s rounds (owner_of s r.urb))))) by.0
+
+      posed : ArePosed s r q
+      posed = go may acts
+
+  -- where a driver has it
+  module _ (o : Owner) (is : owner_of s r.urb ≡ Some o) (decided asking : LineRun) (q : Option Inquiry) (act : Action) (acts : act ≡ action_of o.driver o.role r.status (moved_in s r))
+      (has : Now s rounds r o is (noted_out s rounds r o is) decided.cores.items)
+      (did : r.outcome ≡ outcome_by s h r.urb (asking_of s r.urb) (asks_or_rests (asking_of s r.urb) (is_out s o.place rounds) act)) (sees : (urb : UrbId) → o.ctl ≡ Some urb → IsSeen s decided urb) where
+    did_as : (a : Action) → act ≡ a → r.outcome ≡ outcome_by s h r.urb (asking_of s r.urb) (asks_or_rests (asking_of s r.urb) (is_out s o.place rounds) a)
+    did_as a e = did ∙ ap (λ a. outcome_by s h r.urb (asking_of s r.urb) (asks_or_rests (asking_of s r.urb) (is_out s o.place rounds) a)) e
+
+    -- nothing is asked
+    quietly : (q ≡ None) × (asking.cores ≡ decided.cores) → ArePosed s r q → is_accepted r.outcome ≡ false → IsInquired s rounds r asking q
+    quietly by posed none = record {
+      posed = posed;
+      cores = λ acted new cores settled. unasked s rounds r o is decided.cores.items new.cores.items has
+          (settled_none acted new (subst (λ q. Settled acted new q r.outcome) by.0 settled) ∙ ((λ i. (cores i).items) ∙ (λ i. (by.1 i).items))) none;
+    }
+      where
+        settled_none : (acted new : LineRun) → Settled acted new None r.outcome → new.cores.items ≡ acted.cores.items
+        settled_none acted new is = (λ i. (is i).cores.items)
+
+    rests_quietly : (q ≡ None) × (asking.cores ≡ decided.cores) → r.outcome ≡ outcome.Rest → IsInquired s rounds r asking q
+    rests_quietly by rest = quietly by (subst (λ x. IsPosedBy s (asking_of s r.urb) x q) (sym rest) by.0) (ap is_accepted rest)
+
+    -- a driver that asks does so behind a job
+    module _ (asks : act ≡ action.Ask) where
+      write : o.role ≡ Write
+      write = (asks_by o.driver o.role r.status (moved_in s r) (sym acts ∙ asks)).1
+
+      no_answer : is_answer o.driver (origin_of s o.place) o.role (moved_in s r) ≡ false
+      no_answer = ap (λ role. is_answer o.driver (origin_of s o.place) role (moved_in s r)) write ∙ write_unanswered o.driver (origin_of s o.place) (moved_in s r)
+
+      abbrev out : Bool
+      out = is_out s o.place rounds
+
+      known : (core : Core) → slice_get decided.cores.items o.place ≡ Some core → is_asking core ≡ out
+      known core at = has.out o.place core at ∙ (at_here s rounds r o is (cond (is_answer o.driver (origin_of s o.place) o.role (moved_in s r)) false out) (λ j. is_out s j rounds) ∙ ap (λ b. cond b false out) no_answer)
+
+      asking_so : (ctl : Option UrbId) (t : Option Transfer) → o.ctl ≡ ctl → question_by o.driver (origin_of s o.place) ≡ t → asking_of s r.urb ≡ asking_with ctl t
+      unfolding asking_of
+      asking_so ctl t e f = ap (asking_by s) is ∙ (ap (λ b. cond b None (asking_with o.ctl (question_by o.driver (origin_of s o.place)))) (ap is_ctl write) ∙ (λ i. asking_with (e i) (f i)))
+
+      did_by : (asking : Option Asking) → asking_of s r.urb ≡ asking → (b : Bool) → out ≡ b → r.outcome ≡ outcome_by s h r.urb asking (asks_or_rests asking b action.Ask)
+      did_by asking e b f = did_as action.Ask asks ∙ (λ i. outcome_by s h r.urb (e i) (asks_or_rests (e i) (f i) action.Ask))
+
+      -- its core has seen as much, and its question stands so
+      module _ (core after : Core) (t : Option Transfer) (at : slice_get decided.cores.items o.place ≡ Some core) (set : asking.cores.items ≡ slice_set decided.cores.items o.place after) (gave : GaveInquiry core after t) where
+        abbrev b : (b : Bound) × (slice_get (bindings_of s) o.place ≡ Some b) × (b.driver ≡ o.driver) × (role_in r.urb b ≡ Some o.role)
+        b = owner_bound s r.urb o is
+
+        got : (t ≡ cond (is_asking core) None (question_by b.0.driver (origin_of s o.place))) × IsCore b.0.driver (origin_of s o.place) (done_at s o.place (rounds ++ r ∷ [])) after × (is_asking after ≡ cond (is_some t) true (is_asking core))
+        got = gave b.0.driver (origin_of s o.place) (done_at s o.place (rounds ++ r ∷ [])) (has.each o.place core b.0 at b.1)
+
+        given : t ≡ cond out None (question_by o.driver (origin_of s o.place))
+        given = got.0 ∙ (λ i. cond (known core at i) None (question_by (b.2 i) (origin_of s o.place)))
+
+        now : Now s rounds r o is (λ j. cond (eqb o.place j) (cond (is_some t) true out) (is_out s j rounds)) asking.cores.items
+        now = replaced s rounds r o is decided.cores.items asking.cores.items core after (cond (is_some t) true out) has at set (λ seen. got.1) (got.2 ∙ ap (λ x. cond (is_some t) true x) (known core at))
+
+      -- the core gave none
+      none_given : (core after : Core) → slice_get decided.cores.items o.place ≡ Some core → asking.cores.items ≡ slice_set decided.cores.items o.place after → GaveInquiry core after None → (urb : UrbId) → o.ctl ≡ Some urb
+          → q ≡ None → IsInquired s rounds r asking q
+      none_given core after at set gave urb ctl none = record {
+        posed = subst (λ x. IsPosedBy s (asking_of s r.urb) x q) (sym rest) none;
+        cores = λ acted new cores settled. settled_cores s rounds r o is new.cores.items out
+            (subst (λ l. Now s rounds r o is (λ j. cond (eqb o.place j) out (is_out s j rounds)) l) (sym (settled_none acted new (subst (λ q. Settled acted new q r.outcome) none settled) ∙ (λ i. (cores i).items))) (now core after None at set gave))
+            (sym (ap (λ b. cond b false (out || is_accepted r.outcome)) no_answer ∙ (ap (λ x. out || is_accepted x) rest ∙ or_false s rounds r out)));
+      }
+        where
+          settled_none : (acted new : LineRun) → Settled acted new None r.outcome → new.cores.items ≡ acted.cores.items
+          settled_none acted new is = (λ i. (is i).cores.items)
+
+          by_out : (x : Bool) → out ≡ x → None ≡ cond x None (question_by o.driver (origin_of s o.place)) → r.outcome ≡ outcome.Rest
+          by_out true e g = did_by (asking_of s r.urb) refl true e ∙ did_out (asking_of s r.urb)
+          by_out false e g = did_by None (asking_so (Some urb) None ctl (sym g)) false e
+
+          rest : r.outcome ≡ outcome.Rest
+          rest = by_out out refl (given core after None at set gave)
+
+      -- it gave this one
+      abbrev asked_with : UrbId → Inquiry → Asking
+      asked_with urb x = record { urb = urb.0; transfer = x.transfer }
+
+      abbrev answer : UrbId → Inquiry → Code
+      answer urb x = submit_answer (shape_fault (shape_at s (home s urb.0)) x.transfer) (refusal (state_of h urb.0))
+
+      some_given : (core after : Core) (x : Inquiry) → slice_get decided.cores.items o.place ≡ Some core → asking.cores.items ≡ slice_set decided.cores.items o.place after → GaveInquiry core after (Some x.transfer)
+          → (urb : UrbId) → o.ctl ≡ Some urb → q ≡ Some x → x.place ≡ o.place → x.urb ≡ urb
+          → ((row : UrbRow) (end : EndRow) → slice_get decided.urbs.items urb.0 ≡ Some row → slice_get decided.ends.items row.home ≡ Some end → x.fault ≡ shape_fault end.shape x.transfer) → IsInquired s rounds r asking q
+      some_given core after x at set gave urb ctl this place same fault = record {
+        posed = subst (ArePosed s r) (sym this) (subst (λ y. IsPosedBy s (asking_of s r.urb) y (Some x)) (sym asked) (subst (λ y. IsPosedBy s y (outcome.Asked (answer urb x)) (Some x)) (sym one) record {
+          urb = ap (λ (u : UrbId). u.0) same;
+          transfer = refl;
+          fault = fault seen.0 seen.1 seen.2 seen.3 ∙ ap (λ shape. shape_fault shape x.transfer) seen.4;
+        }));
+        cores = λ acted new cores settled. by_code acted new cores (answer urb x) refl (subst (λ y. Settled acted new (Some x) y) asked (subst (λ q. Settled acted new q r.outcome) this settled));
+      }
+        where
+          seen : IsSeen s decided urb
+          seen = sees urb ctl
+
+          idle : (y : Bool) → out ≡ y → Some x.transfer ≡ cond y None (question_by o.driver (origin_of s o.place)) → (out ≡ false) × (question_by o.driver (origin_of s o.place) ≡ Some x.transfer)
+          idle true e g = cc
+          idle false e g = (e, sym g)
+
+          free : (out ≡ false) × (question_by o.driver (origin_of s o.place) ≡ Some x.transfer)
+          free = idle out refl (given core after (Some x.transfer) at set gave)
+
+          one : asking_of s r.urb ≡ Some (asked_with urb x)
+          one = asking_so (Some urb) (Some x.transfer) ctl free.1
+
+          asked : r.outcome ≡ outcome.Asked (answer urb x)
+          asked = did_by (Some (asked_with urb x)) one false free.0
+
+          by_code : (acted new : LineRun) → acted.cores ≡ asking.cores → (c : Code) → answer urb x ≡ c → Settled acted new (Some x) (outcome.Asked (answer urb x)) → ShowsCores s (rounds ++ r ∷ []) new.cores.items
+          by_code acted new cores Zero e settled =
+              let done = subst (λ c. Settled acted new (Some x) (outcome.Asked c)) e settled in
+              settled_cores s rounds r o is new.cores.items true
+              (subst (λ l. Now s rounds r o is (λ j. cond (eqb o.place j) true (is_out s j rounds)) l) (sym ((λ i. (done.0.1 i).items) ∙ (λ i. (cores i).items))) (now core after (Some x.transfer) at set gave))
+              (sym (ap (λ b. cond b false (out || is_accepted r.outcome)) no_answer ∙ (ap (λ y. out || is_accepted y) (asked ∙ ap outcome.Asked e) ∙ or_true s rounds r out)))
+          by_code acted new cores (Fault f) e settled =
+              let done = subst (λ c. Settled acted new (Some x) (outcome.Asked c)) e settled in
+              let back = done.0.0 in
+              let stood : slice_get asking.cores.items o.place ≡ Some back.0 = (λ i. slice_get (sym cores i).items (sym place i)) ∙ back.2 in
+              settled_cores s rounds r o is new.cores.items false
+              (replaced_again s rounds r o is asking.cores.items new.cores.items back.0 back.1 true false (now core after (Some x.transfer) at set gave) stood
+              (back.3 ∙ (λ i. slice_set (cores i).items (place i) back.1)) (back.4.0 (b core after (Some x.transfer) at set gave).0.driver (origin_of s o.place) (done_at s o.place (rounds ++ r ∷ []))) back.4.1)
+              (sym (ap (λ b. cond b false (out || is_accepted r.outcome)) no_answer ∙ (ap (λ y. out || is_accepted y) (asked ∙ ap outcome.Asked e) ∙ (or_false s rounds r out ∙ free.0))))
+
+      by_given : (x : Option Inquiry) (urb : UrbId) → o.ctl ≡ Some urb → q ≡ x → InquiryOf decided asking o urb x → IsInquired s rounds r asking q
+      by_given None urb ctl this by = none_given by.0 by.1 by.2 by.3 by.4 urb ctl this
+      by_given (Some x) urb ctl this by = some_given by.0 by.1 x by.2 by.3 by.4 urb ctl this by.6 by.7 by.8
+
+      asks_inquired : (ctl : Option UrbId) → o.ctl ≡ ctl → InquiryWith decided asking o ctl q → IsInquired s rounds r asking q
+      asks_inquired None ctl by = rests_quietly by (by_out out refl)
+        where
+          by_out : (x : Bool) → out ≡ x → r.outcome ≡ outcome.Rest
+          by_out true e = did_by (asking_of s r.urb) refl true e ∙ did_out (asking_of s r.urb)
+          by_out false e = did_by None (asking_so None (question_by o.driver (origin_of s o.place)) ctl refl) false e
+      asks_inquired (Some urb) ctl by = by_given q urb ctl refl by
+
+    pub inquired_some : InquiryBy decided asking (Some o) act q → IsInquired s rounds r asking q
+    inquired_some by = go act refl by
+      where
+        go : (a : Action) → act ≡ a → InquiryBy decided asking (Some o) a q → IsInquired s rounds r asking q
+        go action.Rest e by = rests_quietly by (did_as action.Rest e ∙ did_rest (asking_of s r.urb) (is_out s o.place rounds))
+        go (action.Again from len) e by =
+            let again = did_as (action.Again from len) e ∙ did_again (asking_of s r.urb) (is_out s o.place rounds) from len in
+            quietly by (subst (λ x. IsPosedBy s (asking_of s r.urb) x q) (sym again) tt) (ap is_accepted again)
+        go action.Ask e by = asks_inquired e o.ctl refl by
+
+-- what stands where an item was put
+put_there : {X : Type 0} (xs : List X) (i : ℕ) (x y : X) → slice_get xs i ≡ Some x → slice_get (slice_set xs i y) i ≡ Some y
+put_there [] i x y at = cc
+put_there (z ∷ xs) zero x y at = refl
+put_there (z ∷ xs) (suc i) x y at = put_there xs i x y at
+
+-- the URB of an inquiry is there, and its core may take the question back
+module _ (old new : LineRun) where
+  none_here : {X : Type 0} (q : Option Inquiry) → (q ≡ None) × (new.cores ≡ old.cores) → (x : Inquiry) → q ≡ Some x → X
+  none_here q by x is = let no_ = sym by.0 ∙ is in cc
+
+  near_by : (o : Owner) (ctl : Option UrbId) → o.ctl ≡ ctl → (q : Option Inquiry) → InquiryWith old new o ctl q → CanAsk old (Some o) → (x : Inquiry) → q ≡ Some x → (x.urb.0 < length old.urbs.items) × (x.urb.0 < urbs_of old.plain)
+  near_by o None ctl q by can x is = none_here q by x is
+  near_by o (Some urb) ctl None by can x is = cc
+  near_by o (Some urb) ctl (Some y) by can x is =
+      let same : y ≡ x = cc in let a = can urb ctl in
+      subst (λ (x : Inquiry). (x.urb.0 < length old.urbs.items) × (x.urb.0 < urbs_of old.plain)) same
+      (subst (λ (u : UrbId). (u.0 < length old.urbs.items) × (u.0 < urbs_of old.plain)) (sym by.7) (a.0, a.1))
+
+  pub inquires_near : (o : Option Owner) (act : Action) (q : Option Inquiry) → InquiryBy old new o act q → CanAsk old o → (x : Inquiry) → q ≡ Some x → (x.urb.0 < length old.urbs.items) × (x.urb.0 < urbs_of old.plain)
+  inquires_near None act q by can x is = none_here q by x is
+  inquires_near (Some o) action.Rest q by can x is = none_here q by x is
+  inquires_near (Some o) (action.Again from len) q by can x is = none_here q by x is
+  inquires_near (Some o) action.Ask q by can x is = near_by o o.ctl refl q by can x is
+
+  back_by : (o : Owner) (ctl : Option UrbId) → (q : Option Inquiry) → InquiryWith old new o ctl q → (x : Inquiry) → q ≡ Some x → (core : Core) × (slice_get new.cores.items x.place ≡ Some core) × CanUnask core x.transfer
+  back_by o None q by x is = none_here q by x is
+  back_by o (Some urb) None by x is = cc
+  back_by o (Some urb) (Some y) by x is =
+      let same : y ≡ x = cc in
+      subst (λ (x : Inquiry). (core : Core) × (slice_get new.cores.items x.place ≡ Some core) × CanUnask core x.transfer) same
+      (by.1, (λ i. slice_get (by.3 i) (by.6 i)) ∙ put_there old.cores.items o.place by.0 by.1 by.2, by.5)
+
+  pub inquires_back : (o : Option Owner) (act : Action) (q : Option Inquiry) → InquiryBy old new o act q → (x : Inquiry) → q ≡ Some x → (core : Core) × (slice_get new.cores.items x.place ≡ Some core) × CanUnask core x.transfer
+  inquires_back None act q by x is = none_here q by x is
+  inquires_back (Some o) action.Rest q by x is = none_here q by x is
+  inquires_back (Some o) (action.Again from len) q by x is = none_here q by x is
+  inquires_back (Some o) action.Ask q by x is = back_by o o.ctl q by x is
+
+  pub inquires_settle : (o : Option Owner) (act : Action) (q : Option Inquiry) → InquiryBy old new o act q → CanAsk old o → (acted : LineRun) → acted.cores ≡ new.cores → length acted.urbs.items ≡ length old.urbs.items → CanSettle acted q
+  inquires_settle o act q by can acted cores count = go q refl
+    where
+      go : (x : Option Inquiry) → q ≡ x → CanSettle acted x
+      go None is = tt
+      go (Some x) is =
+          let back = inquires_back o act q by x is in
+          (subst (λ n. x.urb.0 < n) (sym count) (inquires_near o act q by can x is).0, back.0, (λ i. slice_get (cores i).items x.place) ∙ back.1, back.2)
+
+  pub inquires_within : (o : Option Owner) (act : Action) (q : Option Inquiry) → InquiryBy old new o act q → CanAsk old o → new.plain ≡ old.plain → IfSome q (λ x. x.urb.0 < urbs_of new.plain)
+  inquires_within o act q by can plain = go q refl
+    where
+      go : (x : Option Inquiry) → q ≡ x → IfSome x (λ x. x.urb.0 < urbs_of new.plain)
+      go None is = tt
+      go (Some x) is = subst (λ (p : Plain). x.urb.0 < urbs_of p) (sym plain) (inquires_near o act q by can x is).1
+
+-- what a driver's question needs stays
+pub can_ask_kept : (old new : LineRun) (o : Option Owner) → new.urbs ≡ old.urbs → new.ends ≡ old.ends → urbs_of new.plain ≡ urbs_of old.plain → CanAsk old o → CanAsk new o
+can_ask_kept old new o urbs ends count can urb is =
+    let was = can urb is in (
+      (subst (λ n. urb.0 < n) (λ i. length (sym urbs i).items) was.0),
+      (subst (λ n. urb.0 < n) (sym count) was.1),
+      (λ row at. subst (λ n. row.home < n) (λ i. length (sym ends i).items) (was.2 row ((λ i. slice_get (sym urbs i).items urb.0) ∙ at))),
+    )
+
+-- what is there when the core took note, and when it gave its question
+module _ (run decided : LineRun) (plain : Plain) (kept : decided ≡ record run { plain = plain; cores = decided.cores }) where
+  pub can_ask_decided : (o : Option Owner) → urbs_of plain ≡ urbs_of run.plain → CanAsk run o → CanAsk decided o
+  can_ask_decided o count = can_ask_kept run decided o (ap (λ (r : LineRun). r.urbs) kept) (ap (λ (r : LineRun). r.ends) kept) (ap (λ (r : LineRun). urbs_of r.plain) kept ∙ count)
+
+  pub home_asking : (asking : LineRun) → asking ≡ record decided { cores = asking.cores } → (home : ℕ) → home < length run.ends.items → home < length asking.ends.items
+  home_asking asking same home = subst (λ n. home < n) (sym (ap (λ (r : LineRun). length r.ends.items) same ∙ ap (λ (r : LineRun). length r.ends.items) kept))
+
+  pub home_in : (asking : LineRun) → asking ≡ record decided { cores = asking.cores } → (home : ℕ) → home < length run.ends.items → home < vec_len asking.ends
+  home_in asking same home is = subst (λ n. home < n) (sym asking.ends.ok.0) (home_asking asking same home is)
+
+-- behind what a core took note of, it is there
+pub noted_there : (old new : List Core) (o : Option Owner) (may : Bool) (status : Code) (t : Transfer) (act : Action) → Noted old new o may status t act → CanInquire new o
+noted_there old new None may status t act noted = tt
+noted_there old new (Some o) may status t act noted =
+    let near = slice_get_within old o.place noted.0 noted.2 in
+    subst (λ n. o.place < n) (sym (ap (λ l. length l) noted.3 ∙ length-set old o.place noted.1)) near

@@ -1,0 +1,134 @@
+-- What a call submits, its URB may have.
+use Rattle.std.proofs.Common.{ℕ, inl, inr, ◌≡◌, ◌<◌, Bool, true, false, cond, eqb, Option, Some, None, List, ◌∷◌, length, refl, sym, ap, ◌∙◌, subst, arith, eqb-true, true≢false}
+use Rattle.std.specs.Prelude.{◌==◌, ◌&&◌, slice_get}
+use Rattle.usb_types.specs.declared.urb.Role.{Role}
+use Rattle.usb_types.specs.declared.urb.Role.TheVariants.{In as InRole, Note, Read0, Read1, Write, Ctl}
+use Rattle.usb_machine.specs.declared.layout.EndKind.{EndKind}
+use Rattle.usb_machine.specs.declared.transfer.Transfer.{Transfer}
+use Rattle.usb_xfer.specs.Direction.{ControlIn, ControlOut, In, Out, goes_in, setup_in, is_control}
+use Rattle.usb_xfer.specs.Moved.{question_by}
+use Rattle.usb_device.specs.Rules.{is_at}
+use Rattle.usb_device.specs.Laws.{sets_halt}
+use Rattle.usb_class.specs.Handler.{is_ctl}
+use Rattle.usb_class.specs.Calls.{setup_for}
+use Rattle.usb_class.proofs.Facts.{role_has, IsRequest, call_request}
+use Rattle.usb_scene.specs.declared.scene.Scene.{Scene}
+use Rattle.usb_scene.specs.declared.scene.Call.{Call}
+use Rattle.usb_scene.specs.declared.scene.Target.{Target}
+use Rattle.usb_scene.specs.declared.scene.Target.TheVariants as target
+use Rattle.usb_scene.specs.WellFormed.{IsBuilt, IsCall, IsWellFormed}
+use Rattle.usb_prepare.specs.Ends.{shape_at}
+use Rattle.usb_prepare.specs.Prepared.{bindings_of}
+use Rattle.usb_prepare.specs.Layout.{urb_count, home, role_urb}
+use Rattle.usb_bind.specs.declared.bound.Bound.{Bound}
+use Rattle.usb_bind.specs.Board.{urb_of_role}
+use Rattle.usb_prepare.proofs.Facts.{bound_near, bound_home_ctl, urb_once}
+use Rattle.usb_line.specs.declared.owner.Owner.{Owner}
+use Rattle.usb_line.specs.declared.made.Deed.TheVariants as deed
+use Rattle.usb_line.specs.Prepared.{owner_of, fresh, submit_fault, setup_by, called_urb, deed_on, deed_on_any, deed_called, deed_by, deed_of}
+use Rattle.usb_line.specs.Between.{IsBare}
+use Rattle.usb_line.specs.Shows.{IsApt}
+use Rattle.usb_line.proofs.Owners.{owner_bound}
+use Rattle.usb_line.proofs.Apt.{own_apt, packets_apt}
+use Rattle.usb_line.proofs.Called.{IsCalled, called_by}
+
+-- a control transfer whose setup packet halts no endpoint
+control_tame : (kind : EndKind) (b c : Bool) (max : ℕ) (t : Transfer) → is_control kind ≡ true → is_at 0x02 3 0 (setup_in t.setup) ≡ false
+    → sets_halt (question_by (cond (is_control kind) (cond b ControlIn ControlOut) (cond c In Out)) max t) ≡ false
+control_tame kind b c max t control is = ap (λ k. sets_halt (question_by (cond k (cond b ControlIn ControlOut) (cond c In Out)) max t)) control ∙ go b
+  where
+    go : (b : Bool) → sets_halt (question_by (cond b ControlIn ControlOut) max t) ≡ false
+    go true = is
+    go false = is
+
+ctl_of : (r : Role) → Ctl ≡ r → is_ctl r ≡ true
+ctl_of r e = ap is_ctl (sym e)
+
+-- a packet of the class on endpoint zero halts nothing
+not_halt : (kind : ℕ) (rest : List ℕ) → eqb kind 2 ≡ false → is_at 0x02 3 0 (setup_in (Some (kind ∷ rest))) ≡ false
+not_halt kind rest off = ap (λ b. (b && (setup_in (Some (kind ∷ rest))).request == 3) && (setup_in (Some (kind ∷ rest))).value == 0) off
+
+-- a binding's URB for control transfers may have a request of the class
+module _ (s : Scene) (good : IsWellFormed s) (k : ℕ) (b : Bound) (u : ℕ) (at : slice_get (bindings_of s) k ≡ Some b) (has : urb_of_role b Ctl ≡ Some (record { 0 = u })) (t : Transfer) where
+  ctl_bare : (o : Option Owner) → owner_of s u ≡ o → IsBare o t.setup
+  ctl_bare None e = tt
+  ctl_bare (Some o) e = λ off.
+      let own = owner_bound s u o e in
+      let one = urb_once s good k o.place b own.0 Ctl o.role record { 0 = u } at own.1 has (role_has u own.0 o.role own.3) in
+      absurd (true≢false (sym (ctl_of o.role one.1) ∙ off))
+
+  pub ctl_apt : IsRequest Ctl t.setup → IsApt s u t
+  ctl_apt request =
+      let shape = shape_at s (home s u) in
+      let ends = bound_home_ctl s good k b record { 0 = u } at has in
+      record {
+        near = (bound_near s good k b Ctl record { 0 = u } at has).1;
+        asked = ap (λ k. cond (is_control k) 0 shape.address) ends.2 ∙ sym ends.1;
+        tame = λ off. control_tame shape.kind (goes_in (setup_in t.setup).kind) (goes_in shape.address) shape.max t (ap is_control ends.2)
+            (ap (λ x. is_at 0x02 3 0 (setup_in x)) request.2 ∙ not_halt request.0 request.1 request.3);
+        bare = ctl_bare (owner_of s u) refl;
+      }
+
+module _ (s : Scene) (good : IsWellFormed s) (u : ℕ) (c : Call) where
+  -- a call on an interface
+  module _ (d i : ℕ) (aims : c.target ≡ target.Interface d i) (called : IsCalled s c.code u) (none : submit_fault s u c ≡ None) where
+    abbrev t : Transfer
+    t = fresh s u c
+
+    setup_is : t.setup ≡ setup_for c.code i c.numbers c.bytes
+    setup_is = ap (λ (x : Target). setup_by x c) aims
+
+    near : u < urb_count s
+    near = (bound_near s good called.place called.binding called.purpose record { 0 = u } called.at called.has).1
+
+    interface_apt : (r : Role) → called.purpose ≡ r → IsRequest r t.setup → IsApt s u t
+    interface_apt Ctl is request = ctl_apt s good called.place called.binding u called.at (subst (λ r. urb_of_role called.binding r ≡ Some (record { 0 = u })) is called.has) t request
+    interface_apt InRole is request = packets_apt s u near t request none
+    interface_apt Note is request = packets_apt s u near t request none
+    interface_apt Read0 is request = packets_apt s u near t request none
+    interface_apt Read1 is request = packets_apt s u near t request none
+    interface_apt Write is request = packets_apt s u near t request none
+
+    called_apt : IsApt s u t
+    called_apt = interface_apt called.purpose refl (subst (IsRequest called.purpose) (sym setup_is) (call_request c.code called.binding.driver called.purpose i c.numbers c.bytes called.for))
+
+  -- a call on an URB submits it where its number is that of a submit
+  submits : (code v : ℕ) → deed_on code v ≡ deed.Submit u → (code ≡ 1) × (v ≡ u)
+  submits code v e = go (eqb code 1) refl (eqb code 2) (eqb code 3) (eqb code 4) (eqb code 5) (eqb code 6) (eqb code 7) e
+    where
+      go : (a : Bool) → eqb code 1 ≡ a → (b c d e f g : Bool)
+          → cond a (deed.Submit v) (cond b (deed.Unlink v) (cond c (deed.Kill v) (cond d (deed.Poison v) (cond e (deed.Unpoison v) (cond f (deed.Block v) (cond g (deed.Unblock v) deed.Other)))))) ≡ deed.Submit u
+          → (code ≡ 1) × (v ≡ u)
+      go true is b c d e f g x = (eqb-true code 1 is, (let same : v ≡ u = cc in same))
+      go false is true c d e f g x = cc
+      go false is false true d e f g x = cc
+      go false is false false true e f g x = cc
+      go false is false false false true f g x = cc
+      go false is false false false false true g x = cc
+      go false is false false false false false true x = cc
+      go false is false false false false false false x = cc
+
+  called : (o : Option ℕ) → deed_called o ≡ deed.Submit u → o ≡ Some u
+  called None e = cc
+  called (Some v) e = let same : v ≡ u = cc in ap Some same
+
+  by_target : (t : Target) → c.target ≡ t → IsBuilt s c.code t → deed_by s c.code t ≡ deed.Submit u → submit_fault s u c ≡ None → IsApt s u (fresh s u c)
+  by_target target.Nothing aims is e none = absurd (nothing c.code is e)
+    where
+      nothing : (code : ℕ) → IsBuilt s code target.Nothing → deed_by s code target.Nothing ≡ deed.Submit u → ⊥
+      nothing code (inl a) e = let x : deed_by s 8 target.Nothing ≡ deed.Submit u = subst (λ k. deed_by s k target.Nothing ≡ deed.Submit u) a e in cc
+      nothing code (inr (inl a)) e = let x : deed_by s 21 target.Nothing ≡ deed.Submit u = subst (λ k. deed_by s k target.Nothing ≡ deed.Submit u) a e in cc
+      nothing code (inr (inr a)) e = let x : deed_by s 22 target.Nothing ≡ deed.Submit u = subst (λ k. deed_by s k target.Nothing ≡ deed.Submit u) a e in cc
+  by_target (target.Urb v) aims is e none = own_apt s good u (subst (λ w. w < length s.urbs) (submits c.code v e).1 is.2) (fresh s u c)
+  by_target (target.Role d i r) aims is e none = go (role_urb s d i r) e
+    where
+      go : (o : Option ℕ) → deed_on_any c.code o ≡ deed.Submit u → IsApt s u (fresh s u c)
+      go None e = cc
+      go (Some v) e = let one = (submits c.code v e).0 in let low = is.0 in absurd (omega arith)
+  by_target (target.Interface d i) aims is e none = called_apt d i aims (called_by s c.code d i u (called (called_urb s c.code d i) e)) none
+  by_target (target.Anchor a) aims is e none = absurd is
+  by_target (target.Device d) aims is e none = absurd is
+
+  -- what a call submits, its URB may have
+  pub fresh_apt : IsCall s c → deed_of s c ≡ deed.Submit u → submit_fault s u c ≡ None → IsApt s u (fresh s u c)
+  fresh_apt is e none = by_target c.target refl is.built e none
