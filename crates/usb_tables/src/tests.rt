@@ -1,12 +1,6 @@
-//! Tests of the crates below the run.
-mod completions;
+//! Tests of texts, descriptors, enumeration and the URB machine.
 mod descriptors;
 mod enumeration;
-mod keyboards;
 mod lines;
 mod machine;
-mod notifications;
-mod ports;
-mod printers;
 mod reading;
-mod serial;

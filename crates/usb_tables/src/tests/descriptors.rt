@@ -2,7 +2,7 @@
 use std::alloc::Global;
 use std::process::Abort;
 use std::test::Fail;
-use usb_desc::{ConfigTree, DescFault, read_config, read_device, write_config, write_device};
+use usb_desc::{Alt, DescFault, DeviceDesc, read_config, read_device, write_config, write_device};
 
 // The device of the HID class's example: a keyboard with a mouse (HID 1.11, appendix E.1).
 pub const HID_DEVICE: [u8; 18] = [
@@ -83,8 +83,7 @@ fn a_cut_configuration_tells_its_first_fault(rt: HostRuntime) -> Result<(), Fail
 
 #[test]
 fn a_broken_configuration_tells_its_first_fault(rt: HostRuntime) -> Result<(), Fail> {
-    let alloc = rt.alloc();
-    let rows: [(&[u8], DescFault); 4] = [
+    const ROWS: &[(&[u8], DescFault)] = &[
         (
             &[9, 2, 16, 0, 1, 1, 0, 0xa0, 50, 7, 5, 0x81, 3, 8, 0, 10],
             DescFault::EndpointWithoutInterface(9),
@@ -96,27 +95,45 @@ fn a_broken_configuration_tells_its_first_fault(rt: HostRuntime) -> Result<(), F
         (&[8, 4, 8, 0, 1, 1, 0, 0xa0], DescFault::BadLength(0)),
         (&[7, 5, 7, 0, 1, 1, 0], DescFault::BadType(0)),
     ];
-    for (bytes, wanted) in rows {
-        assert_eq!(rt; fault(alloc, bytes), Some(wanted));
+    let alloc = rt.alloc();
+    for (bytes, wanted) in ROWS {
+        assert_eq!(rt; fault(alloc, bytes), Some(*wanted));
     }
     Ok(())
 }
 
+const HID: DeviceDesc = DeviceDesc {
+    usb: 0x0100,
+    class: 0,
+    subclass: 0,
+    protocol: 0,
+    max0: 8,
+    vendor: 0xffff,
+    product: 1,
+    release: 1,
+    texts: [0x04, 0x0e, 0x30],
+    configs: 1,
+};
+
+const HUB: DeviceDesc = DeviceDesc {
+    usb: 0x0200,
+    class: 9,
+    subclass: 0,
+    protocol: 0,
+    max0: 64,
+    vendor: 0x1d6b,
+    product: 2,
+    release: 0x0506,
+    texts: [3, 2, 1],
+    configs: 1,
+};
+
 #[test]
 fn devices_are_read_field_by_field(rt: HostRuntime) -> Result<(), Fail> {
-    let hid = read_device(&HID_DEVICE);
-    let hub = read_device(&HUB_DEVICE);
-    let (Ok(hid), Ok(hub)) = (hid, hub) else {
-        assert!(rt; false, "a device is not read");
-        return Ok(());
-    };
-    assert_eq!(rt; (hid.usb, hid.class, hid.max0), (0x0100, 0, 8));
-    assert_eq!(rt; (hid.vendor, hid.product, hid.release), (0xffff, 1, 1));
-    assert_eq!(rt; (hid.texts, hid.configs), ([0x04, 0x0e, 0x30], 1));
-    assert_eq!(rt; (hub.usb, hub.class, hub.max0), (0x0200, 9, 64));
-    assert_eq!(rt; (hub.vendor, hub.product, hub.release), (0x1d6b, 2, 0x0506));
-    assert_eq!(rt; write_device(&hid), HID_DEVICE);
-    assert_eq!(rt; write_device(&hub), HUB_DEVICE);
+    assert_eq!(rt; read_device(&HID_DEVICE), Ok(HID));
+    assert_eq!(rt; read_device(&HUB_DEVICE), Ok(HUB));
+    assert_eq!(rt; write_device(&HID), HID_DEVICE);
+    assert_eq!(rt; write_device(&HUB), HUB_DEVICE);
     assert_eq!(rt;
         read_device(&HUB_DEVICE[..17]).err(),
         Some(DescFault::Short(17))
@@ -134,49 +151,61 @@ fn written(alloc: Global, bytes: &[u8]) -> Result<Vec<u8>, Fail> {
     }
 }
 
-#[test]
-fn configurations_are_read_field_by_field(rt: HostRuntime) -> Result<(), Fail> {
-    let alloc = rt.alloc();
-    let Ok(tree) = read_config(alloc, &HID_CONFIG) else {
-        assert!(rt; false, "a configuration is not read");
-        return Ok(());
-    };
-    let ConfigTree {
-        said,
-        value,
-        attributes,
-        power,
-        alts,
-        ..
-    } = tree;
-    assert_eq!(rt; (said, value, attributes, power), (2, 1, 0xa0, 50));
-    let alts = alts.items();
-    assert_eq!(rt; alts.len(), 2);
-    let (keyboard, mouse) = (&alts[0], &alts[1]);
-    assert_eq!(rt;
-        (keyboard.number, keyboard.setting, keyboard.said),
-        (0, 0, 1)
-    );
-    assert_eq!(rt;
-        (keyboard.class, keyboard.subclass, keyboard.protocol),
-        (3, 1, 1)
-    );
-    assert_eq!(rt; keyboard.extras.bytes(), &HID_CONFIG[18..27]);
-    assert_eq!(rt; (mouse.number, mouse.class, mouse.protocol), (1, 3, 2));
-    let ends = mouse.ends.items();
+/// An interface's number, setting and count of endpoints, its class, subclass and protocol, and its other descriptors.
+type Interface = ([u8; 3], [u8; 3], &'static [u8]);
+
+/// The interface is this one, and has this endpoint alone.
+fn check_alt<R: Abort>(rt: &R, alt: &Alt, interface: &Interface, end: &(u8, u8, u16, u8)) {
+    let (numbers, class, extras) = interface;
+    assert_eq!(rt; [alt.number, alt.setting, alt.said], *numbers);
+    assert_eq!(rt; [alt.class, alt.subclass, alt.protocol], *class);
+    assert_eq!(rt; alt.extras.bytes(), *extras);
+    let ends = alt.ends.items();
     assert_eq!(rt; ends.len(), 1);
+    let found = &ends[0];
     assert_eq!(rt;
         (
-            ends[0].address,
-            ends[0].attributes,
-            ends[0].max_packet,
-            ends[0].interval
+            found.address,
+            found.attributes,
+            found.max_packet,
+            found.interval
         ),
-        (0x82, 3, 8, 10)
+        *end
     );
-    for bytes in [HID_CONFIG.as_slice(), &HUB_CONFIG, &SERIAL] {
-        let again = written(alloc, bytes)?;
-        assert_eq!(rt; again.as_slice(), bytes);
+}
+
+#[test]
+fn configurations_are_read_field_by_field(rt: HostRuntime) -> Result<(), Fail> {
+    const KEYBOARD: Interface = (
+        [0, 0, 1],
+        [3, 1, 1],
+        &[0x09, 0x21, 0x01, 0x01, 0x00, 0x01, 0x22, 0x3f, 0x00],
+    );
+    const MOUSE: Interface = (
+        [1, 0, 1],
+        [3, 1, 2],
+        &[0x09, 0x21, 0x01, 0x01, 0x00, 0x01, 0x22, 0x32, 0x00],
+    );
+    let Ok(tree) = read_config(rt.alloc(), &HID_CONFIG) else {
+        return Err("a configuration is not read".into());
+    };
+    assert_eq!(rt;
+        [tree.said, tree.value, tree.attributes, tree.power],
+        [2, 1, 0xa0, 50]
+    );
+    let alts = tree.alts.items();
+    assert_eq!(rt; alts.len(), 2);
+    check_alt(&rt, &alts[0], &KEYBOARD, &(0x81, 3, 8, 10));
+    check_alt(&rt, &alts[1], &MOUSE, &(0x82, 3, 8, 10));
+    Ok(())
+}
+
+#[test]
+fn configurations_are_written_back(rt: HostRuntime) -> Result<(), Fail> {
+    const CONFIGS: &[&[u8]] = &[&HID_CONFIG, &HUB_CONFIG, &SERIAL];
+    for bytes in CONFIGS {
+        let again = written(rt.alloc(), bytes)?;
+        assert_eq!(rt; again.as_slice(), *bytes);
     }
     Ok(())
 }

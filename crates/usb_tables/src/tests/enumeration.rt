@@ -24,81 +24,113 @@ fn told(enumerator: &mut Enumerator, reply: &[u8], code: Code) -> Option<Result<
 
 #[test]
 fn six_requests_enumerate_a_device(rt: HostRuntime) -> Result<(), Fail> {
-    let mut enumerator = Enumerator::new(rt.alloc(), 5);
-    let rows: [([u8; 8], &[u8]); 6] = [
-        ([0x80, 6, 0, 1, 0, 0, 8, 0], &HID_DEVICE[..8]),
+    const ROWS: &[([u8; 8], &[u8])] = &[
+        ([0x80, 6, 0, 1, 0, 0, 8, 0], &[0x12, 1, 0, 1, 0, 0, 0, 8]),
         ([0, 5, 5, 0, 0, 0, 0, 0], &[]),
         ([0x80, 6, 0, 1, 0, 0, 18, 0], &HID_DEVICE),
-        ([0x80, 6, 0, 2, 0, 0, 9, 0], &HID_CONFIG[..9]),
+        (
+            [0x80, 6, 0, 2, 0, 0, 9, 0],
+            &[9, 2, 0x3b, 0, 2, 1, 0, 0xa0, 0x32],
+        ),
         ([0x80, 6, 0, 2, 0, 0, 59, 0], &HID_CONFIG),
         ([0, 9, 1, 0, 0, 0, 0, 0], &[]),
     ];
-    for (request, reply) in rows {
-        assert_eq!(rt; asked(&enumerator), Some(request));
+    let mut enumerator = Enumerator::new(rt.alloc(), 5);
+    for (request, reply) in ROWS {
+        assert_eq!(rt; asked(&enumerator), Some(*request));
         assert_eq!(rt; told(&mut enumerator, reply, Code::Zero), Some(Ok(())));
     }
     assert_eq!(rt; asked(&enumerator), None);
     let Ok(attached) = enumerator.finish() else {
-        assert!(rt; false, "the device is not attached");
-        return Ok(());
+        return Err("the device is not attached".into());
     };
-    assert_eq!(rt; attached.address, 5);
-    assert_eq!(rt; attached.device.product, 1);
-    assert_eq!(rt; attached.config.value, 1);
+    assert_eq!(rt;
+        (
+            attached.address,
+            attached.device.product,
+            attached.config.value
+        ),
+        (5, 1, 1)
+    );
+    Ok(())
+}
+
+/// The replies go well but for the last, which has this fault. Then nothing is asked, and no device is attached.
+fn check_fault<R: Abort + AllocGlobal>(
+    rt: &R,
+    good: &[&[u8]],
+    last: &[u8],
+    code: Code,
+    fault: EnumFault,
+) {
+    let mut enumerator = Enumerator::new(rt.alloc(), 1);
+    for reply in good {
+        assert_eq!(rt; told(&mut enumerator, reply, Code::Zero), Some(Ok(())));
+    }
+    assert_eq!(rt; told(&mut enumerator, last, code), Some(Err(fault)));
+    assert_eq!(rt; asked(&enumerator), None);
+    assert!(rt; enumerator.finish().is_err());
+}
+
+#[test]
+fn a_fault_ends_an_enumeration(rt: HostRuntime) {
+    const FIRST: &[u8] = &[0x12, 1, 0, 1, 0, 0, 0, 8];
+    const SHORT: EnumFault = EnumFault::Descriptor(DescFault::Short(7));
+    const STALLED: EnumFault = EnumFault::Status {
+        request: 6,
+        errno: Errno::EPIPE,
+    };
+    const CHANGED: EnumFault = EnumFault::Changed {
+        old: [0x12, 1, 0, 1, 0, 0, 0, 8],
+        new: [0x12, 1, 0, 2, 9, 0, 0, 0x40],
+    };
+    check_fault(&rt, &[], &HID_DEVICE[..7], Code::Zero, SHORT);
+    check_fault(&rt, &[], &[], Code::Fault(Errno::EPIPE), STALLED);
+    check_fault(&rt, &[FIRST, &[]], &HUB_DEVICE, Code::Zero, CHANGED);
+}
+
+#[test]
+fn a_setup_packet_is_eight_bytes(rt: HostRuntime) {
+    const BYTES: [u8; 8] = [0x80, 6, 0x02, 0x01, 0x04, 0x03, 0x12, 0x34];
+    const SETUP: Setup = Setup {
+        kind: 0x80,
+        request: 6,
+        value: 0x0102,
+        index: 0x0304,
+        length: 0x3412,
+    };
+    assert_eq!(rt; Setup::read(BYTES), SETUP);
+    assert_eq!(rt; SETUP.write(), BYTES);
+}
+
+#[test]
+fn tables_are_searched_by_number(rt: HostRuntime) -> Result<(), Fail> {
+    const NAMES: [Option<&str>; 5] = [
+        Some("EREMOTEIO"),
+        None,
+        Some("rightgui"),
+        Some("GET_DESCRIPTOR"),
+        Some("vendor"),
+    ];
+    let names = [
+        name_of(&errnos(), 121),
+        name_of(&errnos(), 3),
+        name_of(&usages(), 0xe7),
+        name_of(&requests(), 6),
+        name_of(&classes(), 0xff),
+    ];
+    assert_eq!(rt; names, NAMES);
     Ok(())
 }
 
 #[test]
-fn a_fault_ends_an_enumeration(rt: HostRuntime) -> Result<(), Fail> {
-    let mut short = Enumerator::new(rt.alloc(), 1);
-    assert_eq!(rt;
-        told(&mut short, &HID_DEVICE[..7], Code::Zero),
-        Some(Err(EnumFault::Descriptor(DescFault::Short(7))))
-    );
-    assert_eq!(rt; asked(&short), None);
-    let mut stalled = Enumerator::new(rt.alloc(), 1);
-    assert_eq!(rt;
-        told(&mut stalled, &[], Code::Fault(Errno::EPIPE)),
-        Some(Err(EnumFault::Status {
-            request: 6,
-            errno: Errno::EPIPE
-        }))
-    );
-    let mut changed = Enumerator::new(rt.alloc(), 1);
-    assert_eq!(rt;
-        told(&mut changed, &HID_DEVICE[..8], Code::Zero),
-        Some(Ok(()))
-    );
-    assert_eq!(rt; told(&mut changed, &[], Code::Zero), Some(Ok(())));
-    let told = told(&mut changed, &HUB_DEVICE, Code::Zero);
-    assert!(rt; matches!(told, Some(Err(EnumFault::Changed { .. }))));
-    assert!(rt; changed.finish().is_err());
-    Ok(())
-}
-
-#[test]
-fn a_setup_packet_is_eight_bytes(rt: HostRuntime) -> Result<(), Fail> {
-    let bytes = [0x80, 6, 0x02, 0x01, 0x04, 0x03, 0x12, 0x34];
-    let setup = Setup::read(bytes);
-    assert_eq!(rt; (setup.kind, setup.request), (0x80, 6));
-    assert_eq!(rt;
-        (setup.value, setup.index, setup.length),
-        (0x0102, 0x0304, 0x3412)
-    );
-    assert_eq!(rt; setup.write(), bytes);
-    Ok(())
-}
-
-#[test]
-fn tables_are_searched_both_ways(rt: HostRuntime) -> Result<(), Fail> {
-    assert_eq!(rt; name_of(&errnos(), 121), Some("EREMOTEIO"));
-    assert_eq!(rt; code_of(&errnos(), "EPERM"), Some(1));
-    assert_eq!(rt; name_of(&errnos(), 3), None);
-    assert_eq!(rt; name_of(&usages(), 0xe7), Some("rightgui"));
-    assert_eq!(rt; code_of(&usages(), "f12"), Some(0x45));
-    assert_eq!(rt; name_of(&requests(), 6), Some("GET_DESCRIPTOR"));
-    assert_eq!(rt; name_of(&classes(), 0xff), Some("vendor"));
-    assert_eq!(rt; code_of(&calls(), "softreset"), Some(30));
-    assert_eq!(rt; code_of(&calls(), "setting"), None);
+fn tables_are_searched_by_name(rt: HostRuntime) -> Result<(), Fail> {
+    let codes = [
+        code_of(&errnos(), "EPERM"),
+        code_of(&usages(), "f12"),
+        code_of(&calls(), "softreset"),
+        code_of(&calls(), "setting"),
+    ];
+    assert_eq!(rt; codes, [Some(1), Some(0x45), Some(30), None]);
     Ok(())
 }

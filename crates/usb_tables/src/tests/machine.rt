@@ -39,202 +39,151 @@ fn by(pass: u32, event: Event) -> Step {
     Step { pass, event }
 }
 
-fn submit(urb: UrbId, number: u64) -> Event {
-    Event::Submit { urb, number }
-}
+/// A pass takes a step by an event, which gets this answer.
+type Row = (u32, Event, Answer);
 
-fn link(urb: UrbId) -> Event {
-    Event::Link { urb }
-}
-
-fn kill(urb: UrbId) -> Event {
-    Event::Mark {
-        urb,
-        why: Why::Kill,
-    }
-}
-
-fn fault(errno: Errno) -> Answer {
-    Answer::Code(Code::Fault(errno))
-}
+const NOTHING: Answer = Answer::Nothing;
 
 const ACCEPTED: Answer = Answer::Code(Code::Zero);
 
-/// Whether the steps get these answers.
-fn answers(
-    rt: &impl Abort,
-    alloc: Global,
-    steps: &[Step],
-    expected: &[Answer],
-) -> Result<(), Fail> {
+const KILL_A: Event = Event::Mark {
+    urb: A,
+    why: Why::Kill,
+};
+
+const KILL_B: Event = Event::Mark {
+    urb: B,
+    why: Why::Kill,
+};
+
+const UNLINK_A: Event = Event::Mark {
+    urb: A,
+    why: Why::Unlink,
+};
+
+const FINISH_A: Event = Event::Finish {
+    urb: A,
+    code: Code::Zero,
+};
+
+const FINISH_B: Event = Event::Finish {
+    urb: B,
+    code: Code::Zero,
+};
+
+/// The steps of the rows get their answers.
+fn check_answers<R: Abort + AllocGlobal>(rt: &R, rows: &[Row]) -> Result<(), Fail> {
+    let alloc = rt.alloc();
+    let mut steps = Vec::new(alloc);
+    for (pass, event, _) in rows {
+        steps.push(by(*pass, *event))?;
+    }
     let layout = layout(alloc)?;
-    let said = replay(alloc, &layout, 2, steps)?.ok_or("a step may not come")?;
-    assert_eq!(rt; said.items(), expected);
+    let said = replay(alloc, &layout, 2, &steps)?.ok_or("a step may not come")?;
+    assert_eq!(rt; said.items().len(), rows.len());
+    for (said, (_, event, answer)) in said.items().iter().zip(rows) {
+        assert_eq!(rt; *said, *answer, "{event:?}");
+    }
     Ok(())
 }
 
 /// The last of the steps may not come, and those before it may.
-fn refuses_last(rt: &impl Abort, alloc: Global, steps: &[Step]) -> Result<(), Fail> {
-    let layout = layout(alloc)?;
-    assert!(rt; replay(alloc, &layout, 2, steps)?.is_none());
-    if let [before @ .., _] = steps {
-        assert!(rt; replay(alloc, &layout, 2, before)?.is_some());
+fn check_last<R: Abort + AllocGlobal>(rt: &R, turns: &[(u32, Event)]) -> Result<(), Fail> {
+    let alloc = rt.alloc();
+    let mut steps = Vec::new(alloc);
+    for (pass, event) in turns {
+        steps.push(by(*pass, *event))?;
     }
+    let layout = layout(alloc)?;
+    assert!(rt; replay(alloc, &layout, 2, &steps)?.is_none());
+    steps.pop();
+    assert!(rt; replay(alloc, &layout, 2, &steps)?.is_some());
     Ok(())
 }
 
 #[test]
 fn a_kill_ends_a_transfer(rt: HostRuntime) -> Result<(), Fail> {
-    let steps = [
-        by(2, submit(A, 11)),
-        by(2, link(A)),
-        by(2, submit(B, 12)),
-        by(2, link(B)),
-        by(0, Event::Take { ep: 0 }),
-        by(3, Event::Reject { urb: B }),
-        by(
-            0,
-            Event::Finish {
-                urb: A,
-                code: Code::Zero,
-            },
-        ),
-        by(3, kill(B)),
-        by(0, Event::Give { urb: A }),
-        by(0, Event::End { urb: A }),
-        by(0, Event::Take { ep: 0 }),
-        by(0, Event::Give { urb: B }),
-        by(0, Event::Rest { urb: B, number: 12 }),
-        by(0, Event::End { urb: B }),
-        by(3, Event::Quiet { urb: B }),
-        by(3, Event::Claim { urb: B }),
-        by(2, submit(B, 13)),
-        by(3, Event::Withdraw { urb: B }),
-        by(2, submit(B, 14)),
+    const IN_PROGRESS: Answer = Answer::Code(Code::Fault(Errno::EINPROGRESS));
+    const NO_ENTRY: Answer = Answer::Code(Code::Fault(Errno::ENOENT));
+    const REFUSED: Answer = Answer::Code(Code::Fault(Errno::EPERM));
+    const ROWS: &[Row] = &[
+        (2, Event::Submit { urb: A, number: 11 }, ACCEPTED),
+        (2, Event::Link { urb: A }, NOTHING),
+        (2, Event::Submit { urb: B, number: 12 }, ACCEPTED),
+        (2, Event::Link { urb: B }, NOTHING),
+        (0, Event::Take { ep: 0 }, Answer::Urb(A)),
+        (3, Event::Reject { urb: B }, NOTHING),
+        (0, FINISH_A, Answer::Truth(true)),
+        (3, KILL_B, IN_PROGRESS),
+        (0, Event::Give { urb: A }, ACCEPTED),
+        (0, Event::End { urb: A }, NOTHING),
+        (0, Event::Take { ep: 0 }, Answer::Urb(B)),
+        (0, Event::Give { urb: B }, NO_ENTRY),
+        (0, Event::Rest { urb: B, number: 12 }, NOTHING),
+        (0, Event::End { urb: B }, NOTHING),
+        (3, Event::Quiet { urb: B }, NOTHING),
+        (3, Event::Claim { urb: B }, Answer::Number(Some(12))),
+        (2, Event::Submit { urb: B, number: 13 }, REFUSED),
+        (3, Event::Withdraw { urb: B }, NOTHING),
+        (2, Event::Submit { urb: B, number: 14 }, ACCEPTED),
     ];
-    let expected = [
-        ACCEPTED,
-        Answer::Nothing,
-        ACCEPTED,
-        Answer::Nothing,
-        Answer::Urb(A),
-        Answer::Nothing,
-        Answer::Truth(true),
-        fault(Errno::EINPROGRESS),
-        ACCEPTED,
-        Answer::Nothing,
-        Answer::Urb(B),
-        fault(Errno::ENOENT),
-        Answer::Nothing,
-        Answer::Nothing,
-        Answer::Nothing,
-        Answer::Number(Some(12)),
-        fault(Errno::EPERM),
-        Answer::Nothing,
-        ACCEPTED,
-    ];
-    answers(&rt, rt.alloc(), &steps, &expected)
+    check_answers(&rt, ROWS)
 }
 
 #[test]
 fn the_first_unlink_stands(rt: HostRuntime) -> Result<(), Fail> {
-    let unlink = Event::Mark {
-        urb: A,
-        why: Why::Unlink,
-    };
-    let steps = [
-        by(2, kill(A)),
-        by(2, submit(A, 1)),
-        by(2, link(A)),
-        by(2, submit(A, 2)),
-        by(2, unlink),
-        by(3, kill(A)),
-        by(0, Event::Take { ep: 0 }),
-        by(
-            0,
-            Event::Finish {
-                urb: A,
-                code: Code::Zero,
-            },
-        ),
-        by(0, Event::Give { urb: A }),
+    const NOT_OUT: Answer = Answer::Code(Code::Fault(Errno::EIDRM));
+    const BUSY: Answer = Answer::Code(Code::Fault(Errno::EBUSY));
+    const IN_PROGRESS: Answer = Answer::Code(Code::Fault(Errno::EINPROGRESS));
+    const UNLINKED: Answer = Answer::Code(Code::Fault(Errno::ECONNRESET));
+    const ROWS: &[Row] = &[
+        (2, KILL_A, NOT_OUT),
+        (2, Event::Submit { urb: A, number: 1 }, ACCEPTED),
+        (2, Event::Link { urb: A }, NOTHING),
+        (2, Event::Submit { urb: A, number: 2 }, BUSY),
+        (2, UNLINK_A, IN_PROGRESS),
+        (3, KILL_A, BUSY),
+        (0, Event::Take { ep: 0 }, Answer::Urb(A)),
+        (0, FINISH_A, Answer::Truth(false)),
+        (0, Event::Give { urb: A }, UNLINKED),
     ];
-    let expected = [
-        fault(Errno::EIDRM),
-        ACCEPTED,
-        Answer::Nothing,
-        fault(Errno::EBUSY),
-        fault(Errno::EINPROGRESS),
-        fault(Errno::EBUSY),
-        Answer::Urb(A),
-        Answer::Truth(false),
-        fault(Errno::ECONNRESET),
-    ];
-    answers(&rt, rt.alloc(), &steps, &expected)
+    check_answers(&rt, ROWS)
 }
 
 #[test]
 fn flags_refuse_in_their_order(rt: HostRuntime) -> Result<(), Fail> {
-    let flag = |flag: Flag| by(1, Event::Flag { urb: A, flag });
-    let steps = [
-        flag(Flag::Down),
-        by(2, submit(A, 1)),
-        flag(Flag::Off),
-        by(2, submit(A, 1)),
-        by(3, Event::Reject { urb: A }),
-        by(2, submit(A, 1)),
-        flag(Flag::Gone),
-        by(2, submit(A, 1)),
-        by(
-            1,
-            Event::Unflag {
-                urb: A,
-                flag: Flag::Gone,
-            },
-        ),
-        by(
-            1,
-            Event::Unflag {
-                urb: A,
-                flag: Flag::Off,
-            },
-        ),
-        by(3, Event::Withdraw { urb: A }),
-        by(2, submit(A, 1)),
+    const SUBMIT: Event = Event::Submit { urb: A, number: 1 };
+    const DOWN: Flag = Flag::Down;
+    const OFF: Flag = Flag::Off;
+    const GONE: Flag = Flag::Gone;
+    const IS_DOWN: Answer = Answer::Code(Code::Fault(Errno::ESHUTDOWN));
+    const ROWS: &[Row] = &[
+        (1, Event::Flag { urb: A, flag: DOWN }, NOTHING),
+        (2, SUBMIT, IS_DOWN),
+        (1, Event::Flag { urb: A, flag: OFF }, NOTHING),
+        (2, SUBMIT, Answer::Code(Code::Fault(Errno::ENOENT))),
+        (3, Event::Reject { urb: A }, NOTHING),
+        (2, SUBMIT, Answer::Code(Code::Fault(Errno::EPERM))),
+        (1, Event::Flag { urb: A, flag: GONE }, NOTHING),
+        (2, SUBMIT, Answer::Code(Code::Fault(Errno::ENODEV))),
+        (1, Event::Unflag { urb: A, flag: GONE }, NOTHING),
+        (1, Event::Unflag { urb: A, flag: OFF }, NOTHING),
+        (3, Event::Withdraw { urb: A }, NOTHING),
+        (2, SUBMIT, IS_DOWN),
     ];
-    let expected = [
-        Answer::Nothing,
-        fault(Errno::ESHUTDOWN),
-        Answer::Nothing,
-        fault(Errno::ENOENT),
-        Answer::Nothing,
-        fault(Errno::EPERM),
-        Answer::Nothing,
-        fault(Errno::ENODEV),
-        Answer::Nothing,
-        Answer::Nothing,
-        Answer::Nothing,
-        fault(Errno::ESHUTDOWN),
-    ];
-    answers(&rt, rt.alloc(), &steps, &expected)
+    check_answers(&rt, ROWS)
 }
 
 #[test]
 fn the_second_pending_urb_waits(rt: HostRuntime) -> Result<(), Fail> {
-    let steps = [
-        by(2, submit(A, 1)),
-        by(2, link(A)),
-        by(2, submit(B, 2)),
-        by(2, link(B)),
-        by(0, Event::Take { ep: 0 }),
-        by(0, Event::Take { ep: 0 }),
-        by(
-            0,
-            Event::Finish {
-                urb: B,
-                code: Code::Zero,
-            },
-        ),
+    const TURNS: &[(u32, Event)] = &[
+        (2, Event::Submit { urb: A, number: 1 }),
+        (2, Event::Link { urb: A }),
+        (2, Event::Submit { urb: B, number: 2 }),
+        (2, Event::Link { urb: B }),
+        (0, Event::Take { ep: 0 }),
+        (0, Event::Take { ep: 0 }),
+        (0, FINISH_B),
     ];
-    refuses_last(&rt, rt.alloc(), &steps)
+    check_last(&rt, TURNS)
 }

@@ -1,7 +1,11 @@
 //! Scenes that are read, and scenes with a bad line.
 use std::alloc::Global;
+use std::process::Abort;
 use std::test::Fail;
-use usb_scene::{Cause, Scene, SceneFault, Target, read_scene, split};
+use usb_scene::{
+    Call, Cause, Scene, SceneDevice, SceneFault, SceneThread, SceneUrb, Target, read_scene, split,
+};
+use usb_types::Buf;
 
 const MOST: usize = 1_048_576;
 
@@ -22,75 +26,109 @@ fn fault(alloc: Global, text: &str) -> Option<(u32, Cause)> {
     }
 }
 
-#[test]
-fn a_scene(rt: HostRuntime) -> Result<(), Fail> {
-    let text =
-        "# a loop\n\nscene 1\ndevice d raw\r\nep 81 bulk 64 0\nanswer 81 2*nak p:00\nanswer 81 stall\nurb a d 81 short len 8\nurb b d 81 again 3\nthread t\nsubmit a\nblock b\nserve\nthread hub\ndown";
-    let scene = read(rt.alloc(), text)?;
-    let (devices, urbs, threads) = (
-        scene.devices.items(),
-        scene.urbs.items(),
-        scene.threads.items(),
-    );
+/// A scene's only device has so many endpoints, and answers so: an address, and how many items stand for it.
+fn check_device<R: Abort>(rt: &R, devices: &[SceneDevice], ends: usize, wanted: &[(u8, usize)]) {
     assert_eq!(rt; devices.len(), 1);
     let script = &devices[0].script;
-    assert_eq!(rt; script.ends.items().len(), 1);
-    assert_eq!(rt; script.answers.items().len(), 1);
-    assert_eq!(rt; script.answers.items()[0].items.items().len(), 3);
-    assert_eq!(rt; urbs.len(), 2);
-    assert_eq!(rt; (urbs[0].len, urbs[0].again, urbs[0].short), (8, 0, true));
-    assert_eq!(rt; (urbs[1].len, urbs[1].again, urbs[1].short), (0, 3, false));
-    assert_eq!(rt; threads.len(), 2);
+    assert_eq!(rt; script.ends.items().len(), ends);
+    let answers = script.answers.items();
+    assert_eq!(rt; answers.len(), wanted.len());
+    for (answers, wanted) in answers.iter().zip(wanted) {
+        assert_eq!(rt; (answers.address, answers.items.items().len()), *wanted);
+    }
+}
+
+/// An URB's address, its length, how often it is submitted again, and whether fewer bytes than asked are a fault.
+type Declared = (u8, u32, u32, bool);
+
+/// The URBs are declared so.
+fn check_urbs<R: Abort>(rt: &R, urbs: &[SceneUrb], wanted: &[Declared]) {
+    assert_eq!(rt; urbs.len(), wanted.len());
+    for (urb, wanted) in urbs.iter().zip(wanted) {
+        assert_eq!(rt; (urb.address, urb.len, urb.again, urb.short), *wanted);
+    }
+}
+
+/// A call's line, its code and its target, its numbers, and its bytes.
+type Kept = ((u32, u32, Target), [u32; 4], Option<&'static [u8]>);
+
+fn are_bytes(bytes: &Option<Buf>, wanted: &Option<&[u8]>) -> bool {
+    match (bytes, wanted) {
+        (Some(bytes), Some(wanted)) => bytes.bytes() == *wanted,
+        (None, None) => true,
+        _ => false,
+    }
+}
+
+/// The calls are kept so.
+fn check_calls<R: Abort>(rt: &R, calls: &[Call], wanted: &[Kept]) {
+    assert_eq!(rt; calls.len(), wanted.len());
+    for (call, (place, numbers, bytes)) in calls.iter().zip(wanted) {
+        assert_eq!(rt; (call.line, call.code, call.target), *place);
+        assert_eq!(rt; call.numbers, *numbers, "{place:?}");
+        assert!(rt; are_bytes(&call.bytes, bytes), "{place:?}");
+    }
+}
+
+/// The calls of the only thread are kept so, and none has a setup packet.
+fn check_thread<R: Abort>(rt: &R, threads: &[SceneThread], wanted: &[Kept]) {
+    assert_eq!(rt; threads.len(), 1);
     let calls = threads[0].calls.items();
-    assert_eq!(rt; calls.len(), 3);
-    assert_eq!(rt;
-        (calls[0].line, calls[0].code, calls[0].target),
-        (11, 1, Target::Urb(0))
-    );
-    assert_eq!(rt;
-        (calls[1].line, calls[1].code, calls[1].target),
-        (12, 6, Target::Urb(1))
-    );
-    assert_eq!(rt;
-        (calls[2].line, calls[2].code, calls[2].target),
-        (13, 8, Target::Nothing)
-    );
+    check_calls(rt, calls, wanted);
+    for call in calls {
+        assert!(rt; call.setup.is_none());
+    }
+}
+
+#[test]
+fn a_scene(rt: HostRuntime) -> Result<(), Fail> {
+    const TEXT: &str =
+        "# a loop\n\nscene 1\ndevice d raw\r\nep 81 bulk 64 0\nanswer 81 2*nak p:00\nanswer 81 stall\nurb a d 81 short len 8\nurb b d 81 again 3\nthread t\nsubmit a\nblock b\nserve\nthread hub\ndown";
+    const URBS: &[Declared] = &[(0x81, 8, 0, true), (0x81, 0, 3, false)];
+    const CALLS: &[Kept] = &[
+        ((11, 1, Target::Urb(0)), [0; 4], None),
+        ((12, 6, Target::Urb(1)), [0; 4], None),
+        ((13, 8, Target::Nothing), [0; 4], None),
+    ];
+    let scene = read(rt.alloc(), TEXT)?;
+    check_device(&rt, scene.devices.items(), 1, &[(0x81, 3)]);
+    check_urbs(&rt, scene.urbs.items(), URBS);
+    let threads = scene.threads.items();
+    assert_eq!(rt; threads.len(), 2);
+    check_calls(&rt, threads[0].calls.items(), CALLS);
     Ok(())
 }
 
 #[test]
 fn a_scene_of_control_transfers(rt: HostRuntime) -> Result<(), Fail> {
-    let text =
+    const TEXT: &str =
         "scene 1\ndevice d raw\nanswer 00 p:AABB ack\nurb c d 00 len 4\nthread t\nsubmit c setup:8006000100000400\nserve\nsubmit c setup:0009010000000000 -";
-    let scene = read(rt.alloc(), text)?;
-    let (devices, urbs, threads) = (
-        scene.devices.items(),
-        scene.urbs.items(),
-        scene.threads.items(),
-    );
-    assert_eq!(rt; devices.len(), 1);
-    let answers = devices[0].script.answers.items();
-    assert_eq!(rt; answers.len(), 1);
-    assert_eq!(rt;
-        (answers[0].address, answers[0].items.items().len()),
-        (0, 2)
-    );
-    assert_eq!(rt; urbs.len(), 1);
-    assert_eq!(rt; (urbs[0].address, urbs[0].len), (0, 4));
+    const CALLS: &[Kept] = &[
+        ((6, 1, Target::Urb(0)), [0; 4], None),
+        ((7, 8, Target::Nothing), [0; 4], None),
+        ((8, 1, Target::Urb(0)), [0; 4], Some(&[])),
+    ];
+    const SETUPS: &[Option<[u8; 8]>] = &[
+        Some([0x80, 6, 0, 1, 0, 0, 4, 0]),
+        None,
+        Some([0, 9, 1, 0, 0, 0, 0, 0]),
+    ];
+    let scene = read(rt.alloc(), TEXT)?;
+    check_device(&rt, scene.devices.items(), 0, &[(0, 2)]);
+    check_urbs(&rt, scene.urbs.items(), &[(0, 4, 0, false)]);
+    let threads = scene.threads.items();
     assert_eq!(rt; threads.len(), 1);
     let calls = threads[0].calls.items();
-    assert_eq!(rt; calls.len(), 3);
-    assert_eq!(rt; calls[0].setup, Some([0x80, 6, 0, 1, 0, 0, 4, 0]));
-    assert!(rt; calls[0].bytes.is_none());
-    assert_eq!(rt; calls[1].setup, None);
-    assert_eq!(rt; calls[2].setup, Some([0, 9, 1, 0, 0, 0, 0, 0]));
-    assert!(rt; calls[2].bytes.is_some());
+    check_calls(&rt, calls, CALLS);
+    for (call, setup) in calls.iter().zip(SETUPS) {
+        assert_eq!(rt; call.setup, *setup);
+    }
     Ok(())
 }
 
 #[test]
 fn bad_lines(rt: HostRuntime) -> Result<(), Fail> {
-    let faults = [
+    const FAULTS: &[(&str, u32, Cause)] = &[
         ("", 1, Cause::Header),
         ("\n# none\n", 2, Cause::Header),
         ("scene 1\r\r\n", 1, Cause::Byte),
@@ -106,8 +144,8 @@ fn bad_lines(rt: HostRuntime) -> Result<(), Fail> {
         ),
         ("scene 1\nthread t\ndown\n", 3, Cause::HubOnly),
     ];
-    for (text, line, cause) in faults {
-        assert_eq!(rt; fault(rt.alloc(), text), Some((line, cause)), "{text}");
+    for (text, line, cause) in FAULTS {
+        assert_eq!(rt; fault(rt.alloc(), text), Some((*line, *cause)), "{text}");
     }
     Ok(())
 }
@@ -158,44 +196,19 @@ fn calls_on_serial_ports_are_kept(rt: HostRuntime) -> Result<(), Fail> {
     let text =
         "scene 1\ndevice k keyboard\ndevice m acm\nthread t\nwrite m 0 41 fill:2:42\ncoding m 1 115200 2 4 16\ncontrol m 255 fE\nsendbreak k 0 65535";
     let scene = read(rt.alloc(), text)?;
-    let threads = scene.threads.items();
-    assert_eq!(rt; threads.len(), 1);
-    let [write, coding, control, pause] = threads[0].calls.items() else {
-        return Err("not four calls".into());
-    };
-    assert_eq!(rt;
-        (write.line, write.code, write.target),
-        (5, 24, aimed(1, 0))
-    );
-    assert_eq!(rt; write.numbers, [0; 4]);
-    assert!(rt; write.setup.is_none());
-    assert!(rt;
-        matches!(&write.bytes, Some(bytes) if bytes.bytes() == [0x41, 0x42, 0x42].as_slice())
-    );
-    assert_eq!(rt;
-        (coding.line, coding.code, coding.target),
-        (6, 25, aimed(1, 1))
-    );
-    assert_eq!(rt; coding.numbers, [115200, 2, 4, 16]);
-    assert!(rt; coding.bytes.is_none());
-    assert_eq!(rt;
-        (control.line, control.code, control.target),
-        (7, 26, aimed(1, 255))
-    );
-    assert_eq!(rt; control.numbers, [0; 4]);
-    assert!(rt; matches!(&control.bytes, Some(bytes) if bytes.bytes() == [0xFE].as_slice()));
-    assert_eq!(rt;
-        (pause.line, pause.code, pause.target),
-        (8, 27, aimed(0, 0))
-    );
-    assert_eq!(rt; pause.numbers, [65535, 0, 0, 0]);
-    assert!(rt; pause.bytes.is_none());
+    let calls: [Kept; 4] = [
+        ((5, 24, aimed(1, 0)), [0; 4], Some(&[0x41, 0x42, 0x42])),
+        ((6, 25, aimed(1, 1)), [115200, 2, 4, 16], None),
+        ((7, 26, aimed(1, 255)), [0; 4], Some(&[0xFE])),
+        ((8, 27, aimed(0, 0)), [65535, 0, 0, 0], None),
+    ];
+    check_thread(&rt, scene.threads.items(), &calls);
     Ok(())
 }
 
 #[test]
 fn causes_against_calls_on_serial_ports(rt: HostRuntime) -> Result<(), Fail> {
-    let calls = [
+    const CALLS: &[(&str, Option<Cause>)] = &[
         ("write m 0 fill:16384:00 -", None),
         ("coding m 0 999999999 2 4 16", None),
         ("write m 0", Some(Cause::Form)),
@@ -214,8 +227,8 @@ fn causes_against_calls_on_serial_ports(rt: HostRuntime) -> Result<(), Fail> {
         ("sendbreak m 0 65536", Some(Cause::Limit)),
         ("break m 0 5", Some(Cause::Word)),
     ];
-    for (call, cause) in calls {
-        assert_eq!(rt; cause_of(rt.alloc(), call)?, cause, "{call}");
+    for (call, cause) in CALLS {
+        assert_eq!(rt; cause_of(rt.alloc(), call)?, *cause, "{call}");
     }
     assert_eq!(rt;
         fault(rt.alloc(), "scene 1\ndevice m acm\nwrite m 0 41"),
@@ -229,35 +242,18 @@ fn calls_on_printers_are_kept(rt: HostRuntime) -> Result<(), Fail> {
     let text =
         "scene 1\ndevice p printer\nthread t\nprint p 0 41 fill:2:42\nstatus p 1\nsoftreset p 255";
     let scene = read(rt.alloc(), text)?;
-    let threads = scene.threads.items();
-    assert_eq!(rt; threads.len(), 1);
-    let [print, status, reset] = threads[0].calls.items() else {
-        return Err("not three calls".into());
-    };
-    assert_eq!(rt;
-        (print.line, print.code, print.target),
-        (4, 28, aimed(0, 0))
-    );
-    assert!(rt;
-        matches!(&print.bytes, Some(bytes) if bytes.bytes() == [0x41, 0x42, 0x42].as_slice())
-    );
-    assert_eq!(rt;
-        (status.line, status.code, status.target),
-        (5, 29, aimed(0, 1))
-    );
-    assert!(rt; status.bytes.is_none());
-    assert_eq!(rt;
-        (reset.line, reset.code, reset.target),
-        (6, 30, aimed(0, 255))
-    );
-    assert!(rt; reset.bytes.is_none());
-    assert_eq!(rt; reset.numbers, [0; 4]);
+    let calls: [Kept; 3] = [
+        ((4, 28, aimed(0, 0)), [0; 4], Some(&[0x41, 0x42, 0x42])),
+        ((5, 29, aimed(0, 1)), [0; 4], None),
+        ((6, 30, aimed(0, 255)), [0; 4], None),
+    ];
+    check_thread(&rt, scene.threads.items(), &calls);
     Ok(())
 }
 
 #[test]
 fn causes_against_calls_on_printers(rt: HostRuntime) -> Result<(), Fail> {
-    let calls = [
+    const CALLS: &[(&str, Option<Cause>)] = &[
         ("print m 0 -", None),
         ("print k 255 fill:16384:00", None),
         ("status k 0", None),
@@ -272,8 +268,8 @@ fn causes_against_calls_on_printers(rt: HostRuntime) -> Result<(), Fail> {
         ("status m 256", Some(Cause::Limit)),
         ("softreset m 256", Some(Cause::Limit)),
     ];
-    for (call, cause) in calls {
-        assert_eq!(rt; cause_of(rt.alloc(), call)?, cause, "{call}");
+    for (call, cause) in CALLS {
+        assert_eq!(rt; cause_of(rt.alloc(), call)?, *cause, "{call}");
     }
     Ok(())
 }

@@ -77,11 +77,18 @@ fn push_event(text: &mut Buf, event: &Event) -> Result<(), Memory> {
 }
 
 /// The events as a report tells them, on one line.
-pub fn push_events(text: &mut Buf, events: &[Event]) -> Result<(), Memory> {
+fn push_events(text: &mut Buf, events: &[Event]) -> Result<(), Memory> {
     for event in events {
         push_event(text, event)?;
     }
     Ok(())
+}
+
+/// The events alone.
+pub fn text_of(alloc: Global, events: &[Event]) -> Result<Buf, Memory> {
+    let mut text = Buf::of(Vec::new(alloc));
+    push_events(&mut text, events)?;
+    Ok(text)
 }
 
 /// The windows of a job that goes well, what becomes of the last, and the events.
@@ -112,8 +119,7 @@ fn printed(alloc: Global, bytes: u32) -> Result<Buf, Fail> {
 
 #[test]
 fn a_job_goes_out_in_windows(rt: HostRuntime) -> Result<(), Fail> {
-    let alloc = rt.alloc();
-    let rows = [
+    const ROWS: &[(u32, &str)] = &[
         (0, "rest job 7 0 0"),
         (1, "rest job 7 1 0"),
         (8191, "rest job 7 8191 0"),
@@ -124,7 +130,8 @@ fn a_job_goes_out_in_windows(rt: HostRuntime) -> Result<(), Fail> {
         (16385, "8192+8192 16384+1 rest job 7 16385 0"),
         (24577, "8192+8192 16384+8192 24576+1 rest job 7 24577 0"),
     ];
-    for (bytes, wanted) in &rows {
+    let alloc = rt.alloc();
+    for (bytes, wanted) in ROWS {
         let text = printed(alloc, *bytes)?;
         assert_eq!(rt; text.bytes(), wanted.as_bytes(), "{bytes}");
     }
@@ -133,7 +140,7 @@ fn a_job_goes_out_in_windows(rt: HostRuntime) -> Result<(), Fail> {
 
 #[test]
 fn the_first_window_has_at_most_8192_bytes(rt: HostRuntime) -> Result<(), Fail> {
-    let rows: [(u32, u32); 6] = [
+    const ROWS: &[(u32, u32)] = &[
         (0, 0),
         (1, 1),
         (8191, 8191),
@@ -141,7 +148,8 @@ fn the_first_window_has_at_most_8192_bytes(rt: HostRuntime) -> Result<(), Fail> 
         (8193, 8192),
         (16384, 8192),
     ];
-    for (bytes, window) in &rows {
+    let alloc = rt.alloc();
+    for (bytes, window) in ROWS {
         assert_eq!(rt; first_window(*bytes), *window, "{bytes}");
     }
     Ok(())
@@ -165,9 +173,8 @@ fn came_back(alloc: Global, fault: &str, window: &Transfer) -> Result<Buf, Fail>
 
 #[test]
 fn a_fault_ends_a_job_and_asks_for_the_port(rt: HostRuntime) -> Result<(), Fail> {
-    let alloc = rt.alloc();
     // The job's bytes, the window's begin and length, and how many bytes of it were moved.
-    let rows: [((u32, u32, u32, u32), &str, &str); 14] = [
+    const ROWS: &[((u32, u32, u32, u32), &str, &str)] = &[
         ((8193, 0, 8192, 8192), "", "8192+1"),
         ((8193, 8192, 1, 1), "", "rest job 7 8193 0"),
         ((100, 10, 20, 20), "", "30+70"),
@@ -192,7 +199,8 @@ fn a_fault_ends_a_job_and_asks_for_the_port(rt: HostRuntime) -> Result<(), Fail>
         ((1, 0, 1, 0), "ESHUTDOWN", "rest job 7 0 -ESHUTDOWN"),
         ((0, 0, 0, 0), "ENOENT", "rest job 7 0 -ENOENT"),
     ];
-    for ((bytes, from, len, actual), fault, wanted) in &rows {
+    let alloc = rt.alloc();
+    for ((bytes, from, len, actual), fault, wanted) in ROWS {
         let window = job(alloc, *bytes, *from, *len, *actual)?;
         let text = came_back(alloc, fault, &window)?;
         assert_eq!(rt; text.bytes(), wanted.as_bytes(), "{wanted}");
@@ -202,8 +210,7 @@ fn a_fault_ends_a_job_and_asks_for_the_port(rt: HostRuntime) -> Result<(), Fail>
 
 #[test]
 fn an_id_is_its_printable_text(rt: HostRuntime) -> Result<(), Fail> {
-    let alloc = rt.alloc();
-    let rows = [
+    const ROWS: &[(&str, &str)] = &[
         // A reply without a length tells nothing.
         ("-", ""),
         ("00", ""),
@@ -228,11 +235,11 @@ fn an_id_is_its_printable_text(rt: HostRuntime) -> Result<(), Fail> {
         ("000400FF", "id .."),
         ("00052041201F", "id  A "),
     ];
-    for (id, wanted) in &rows {
+    let alloc = rt.alloc();
+    for (id, wanted) in ROWS {
         let id = bytes(alloc, id.as_bytes())?;
         let printer = printer(alloc, id.bytes())?;
-        let mut text = Buf::of(Vec::new(alloc));
-        push_events(&mut text, printer.events())?;
+        let text = text_of(alloc, printer.events())?;
         assert_eq!(rt; text.bytes(), wanted.as_bytes());
     }
     Ok(())

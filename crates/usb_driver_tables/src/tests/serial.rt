@@ -103,7 +103,7 @@ pub fn check_events<R: Abort + AllocGlobal>(rt: &R, rows: &[(&str, &str)]) -> Re
 
 #[test]
 fn bytes_come_in_by_both_reads(rt: HostRuntime) -> Result<(), Fail> {
-    let rows = [
+    const ROWS: &[(&str, &str)] = &[
         ("read0=414243", "rx 414243"),
         ("read1=00", "rx 00"),
         ("read0=-", ""),
@@ -113,12 +113,12 @@ fn bytes_come_in_by_both_reads(rt: HostRuntime) -> Result<(), Fail> {
         ("read0=A1200000000002000300", "rx A1200000000002000300"),
         ("A120000000000200 read0=0300 0300", "rx 0300 state 0003"),
     ];
-    check_events(&rt, &rows)
+    check_events(&rt, ROWS)
 }
 
 #[test]
 fn bytes_of_reads_that_failed_are_counted(rt: HostRuntime) -> Result<(), Fail> {
-    let rows = [
+    const ROWS: &[(&str, &str)] = &[
         ("read0.ENOENT=fill:64:55", "dropped 64"),
         ("read1.EPIPE=-", ""),
         (
@@ -136,12 +136,12 @@ fn bytes_of_reads_that_failed_are_counted(rt: HostRuntime) -> Result<(), Fail> {
         // Those of notes and of writes are not counted.
         ("note.EPROTO=A120 write.ENOENT=41", "tx 1 -ENOENT"),
     ];
-    check_events(&rt, &rows)
+    check_events(&rt, ROWS)
 }
 
 #[test]
 fn writes_and_line_codings_are_told(rt: HostRuntime) -> Result<(), Fail> {
-    let rows = [
+    const ROWS: &[(&str, &str)] = &[
         ("write=414243", "tx 3 0"),
         ("write=-", "tx 0 0"),
         ("write.ECONNRESET=4142", "tx 2 -ECONNRESET"),
@@ -159,21 +159,20 @@ fn writes_and_line_codings_are_told(rt: HostRuntime) -> Result<(), Fail> {
             "tx 1 0 rx 42 coding 00C20100000008 state 0003 dropped 2",
         ),
     ];
-    check_events(&rt, &rows)
+    check_events(&rt, ROWS)
 }
 
 #[test]
 fn a_read_goes_on_unless_its_fault_stays(rt: HostRuntime) -> Result<(), Fail> {
-    let alloc = rt.alloc();
-    let again = Action::Again { from: 0, len: 10 };
-    let rows: [(&str, Action); 21] = [
-        ("read0=4142434445464748", again),
-        ("read1=4142434445464748", again),
-        ("A100010000000000", again),
+    const AGAIN: Action = Action::Again { from: 0, len: 10 };
+    const ROWS: &[(&str, Action)] = &[
+        ("read0=4142434445464748", AGAIN),
+        ("read1=4142434445464748", AGAIN),
+        ("A100010000000000", AGAIN),
         ("read0=-", Action::Again { from: 0, len: 2 }),
-        ("read0.EPROTO=4142434445464748", again),
-        ("read1.EOVERFLOW=4142434445464748", again),
-        ("note.EPROTO=4142434445464748", again),
+        ("read0.EPROTO=4142434445464748", AGAIN),
+        ("read1.EOVERFLOW=4142434445464748", AGAIN),
+        ("note.EPROTO=4142434445464748", AGAIN),
         ("note.EOVERFLOW=-", Action::Again { from: 0, len: 2 }),
         ("read0.EPIPE=4142434445464748", Action::Rest),
         ("read0.ENOENT=-", Action::Rest),
@@ -189,7 +188,8 @@ fn a_read_goes_on_unless_its_fault_stays(rt: HostRuntime) -> Result<(), Fail> {
         ("control=-", Action::Rest),
         ("bare.EOVERFLOW=41", Action::Rest),
     ];
-    for (word, action) in &rows {
+    let alloc = rt.alloc();
+    for (word, action) in ROWS {
         let mut port = Acm::new(alloc);
         let got = complete(alloc, &mut port, word.as_bytes())?;
         assert_eq!(rt; got, *action, "{word}");
@@ -214,36 +214,29 @@ fn events_are_handed_over_with_their_memory(rt: HostRuntime) -> Result<(), Fail>
 
 #[test]
 fn a_port_is_set_by_setup_packets(rt: HostRuntime) -> Result<(), Fail> {
-    assert_eq!(rt;
+    const SETUPS: [[u8; 8]; 6] = [
+        [0x21, 0x20, 0x00, 0x00, 0x00, 0x00, 0x07, 0x00],
+        [0x21, 0x20, 0x00, 0x00, 0x02, 0x00, 0x07, 0x00],
+        [0x21, 0x22, 0x03, 0x00, 0x00, 0x00, 0x00, 0x00],
+        [0x21, 0x22, 0xFF, 0x00, 0xFF, 0x00, 0x00, 0x00],
+        [0x21, 0x23, 0xF4, 0x01, 0x00, 0x00, 0x00, 0x00],
+        [0x21, 0x23, 0xFF, 0xFF, 0x01, 0x00, 0x00, 0x00],
+    ];
+    let setups = [
         coding_setup(0),
-        [0x21, 0x20, 0x00, 0x00, 0x00, 0x00, 0x07, 0x00]
-    );
-    assert_eq!(rt;
         coding_setup(2),
-        [0x21, 0x20, 0x00, 0x00, 0x02, 0x00, 0x07, 0x00]
-    );
-    assert_eq!(rt;
         control_setup(0, 0x03),
-        [0x21, 0x22, 0x03, 0x00, 0x00, 0x00, 0x00, 0x00]
-    );
-    assert_eq!(rt;
         control_setup(255, 0xFF),
-        [0x21, 0x22, 0xFF, 0x00, 0xFF, 0x00, 0x00, 0x00]
-    );
-    assert_eq!(rt;
         break_setup(0, 500),
-        [0x21, 0x23, 0xF4, 0x01, 0x00, 0x00, 0x00, 0x00]
-    );
-    assert_eq!(rt;
         break_setup(1, 65_535),
-        [0x21, 0x23, 0xFF, 0xFF, 0x01, 0x00, 0x00, 0x00]
-    );
+    ];
+    assert_eq!(rt; setups, SETUPS);
     Ok(())
 }
 
 #[test]
 fn a_line_coding_has_seven_bytes(rt: HostRuntime) -> Result<(), Fail> {
-    let rows: [((u32, u8, u8, u8), [u8; 7]); 5] = [
+    const ROWS: &[((u32, u8, u8, u8), [u8; 7])] = &[
         ((9_600, 0, 0, 8), [0x80, 0x25, 0x00, 0x00, 0x00, 0x00, 0x08]),
         (
             (115_200, 0, 0, 8),
@@ -256,7 +249,7 @@ fn a_line_coding_has_seven_bytes(rt: HostRuntime) -> Result<(), Fail> {
         ),
         ((0, 0, 1, 5), [0x00, 0x00, 0x00, 0x00, 0x00, 0x01, 0x05]),
     ];
-    for ((rate, stop, parity, bits), wanted) in &rows {
+    for ((rate, stop, parity, bits), wanted) in ROWS {
         assert_eq!(rt; coding(*rate, *stop, *parity, *bits), *wanted, "{rate}");
     }
     Ok(())

@@ -5,7 +5,7 @@ use std::test::Fail;
 
 #[test]
 fn the_lines_stand_in_two_bytes(rt: HostRuntime) -> Result<(), Fail> {
-    let rows = [
+    const ROWS: &[(&str, &str)] = &[
         ("", ""),
         ("-", ""),
         ("A1200000000002000000", "state 0000"),
@@ -22,12 +22,12 @@ fn the_lines_stand_in_two_bytes(rt: HostRuntime) -> Result<(), Fail> {
             "state 0003 state 0003",
         ),
     ];
-    check_events(&rt, &rows)
+    check_events(&rt, ROWS)
 }
 
 #[test]
 fn other_notifications_are_told_by_their_number(rt: HostRuntime) -> Result<(), Fail> {
-    let rows = [
+    const ROWS: &[(&str, &str)] = &[
         // NETWORK_CONNECTION, whose value says whether there is one, and RESPONSE_AVAILABLE.
         ("A100010000000000", "note 00"),
         ("A100000000000000", "note 00"),
@@ -38,12 +38,12 @@ fn other_notifications_are_told_by_their_number(rt: HostRuntime) -> Result<(), F
         ("A1210000000002000300", "note 21"),
         ("A1000100000000 00", "note 00"),
     ];
-    check_events(&rt, &rows)
+    check_events(&rt, ROWS)
 }
 
 #[test]
 fn a_serial_state_is_of_a_class_and_has_two_bytes(rt: HostRuntime) -> Result<(), Fail> {
-    let rows = [
+    const ROWS: &[(&str, &str)] = &[
         ("A120000000000000", "note 20"),
         ("A12000000000010003", "note 20"),
         ("A120000000000300030000", "note 20"),
@@ -61,12 +61,12 @@ fn a_serial_state_is_of_a_class_and_has_two_bytes(rt: HostRuntime) -> Result<(),
             "note 20 state 0003",
         ),
     ];
-    check_events(&rt, &rows)
+    check_events(&rt, ROWS)
 }
 
 #[test]
 fn the_low_byte_of_a_length_comes_first(rt: HostRuntime) -> Result<(), Fail> {
-    let rows = [
+    const ROWS: &[(&str, &str)] = &[
         ("A101000000000100AA", "note 01"),
         ("A1010000000001 00AA", "note 01"),
         ("A101000000000001", "badnote"),
@@ -75,12 +75,12 @@ fn the_low_byte_of_a_length_comes_first(rt: HostRuntime) -> Result<(), Fail> {
         ("A101000000000003", "badnote"),
         ("A101000000000800+fill:8:AA", "note 01"),
     ];
-    check_events(&rt, &rows)
+    check_events(&rt, ROWS)
 }
 
 #[test]
 fn up_to_sixty_four_bytes_of_data_are_waited_for(rt: HostRuntime) -> Result<(), Fail> {
-    let rows = [
+    const ROWS: &[(&str, &str)] = &[
         ("A101000000003F00+fill:62:AA", ""),
         ("A101000000003F00+fill:63:AA", "note 01"),
         ("A101000000004000+fill:63:AA", ""),
@@ -95,12 +95,12 @@ fn up_to_sixty_four_bytes_of_data_are_waited_for(rt: HostRuntime) -> Result<(), 
             "note 01 state 0003",
         ),
     ];
-    check_events(&rt, &rows)
+    check_events(&rt, ROWS)
 }
 
 #[test]
 fn a_longer_one_is_bad_and_its_data_are_read_on(rt: HostRuntime) -> Result<(), Fail> {
-    let rows = [
+    const ROWS: &[(&str, &str)] = &[
         ("A101000000004100", "badnote"),
         ("A1200000000041 00", "badnote"),
         ("A120000000004100", "badnote"),
@@ -118,12 +118,12 @@ fn a_longer_one_is_bad_and_its_data_are_read_on(rt: HostRuntime) -> Result<(), F
             "state 0001 badnote state 0003",
         ),
     ];
-    check_events(&rt, &rows)
+    check_events(&rt, ROWS)
 }
 
 #[test]
 fn a_notification_may_be_cut_anywhere(rt: HostRuntime) -> Result<(), Fail> {
-    let rows = [
+    const ROWS: &[(&str, &str)] = &[
         ("A1 200000000002000300", "state 0003"),
         ("A120 0000000002000300", "state 0003"),
         ("A12000 00000002000300", "state 0003"),
@@ -140,12 +140,12 @@ fn a_notification_may_be_cut_anywhere(rt: HostRuntime) -> Result<(), Fail> {
         ("A120000000000200", ""),
         ("A12000000000020003", ""),
     ];
-    check_events(&rt, &rows)
+    check_events(&rt, ROWS)
 }
 
 #[test]
 fn several_may_come_at_once(rt: HostRuntime) -> Result<(), Fail> {
-    let rows = [
+    const ROWS: &[(&str, &str)] = &[
         (
             "A1200000000002000100A1200000000002000300",
             "state 0001 state 0003",
@@ -171,12 +171,12 @@ fn several_may_come_at_once(rt: HostRuntime) -> Result<(), Fail> {
             "note 01 note 01 note 01",
         ),
     ];
-    check_events(&rt, &rows)
+    check_events(&rt, ROWS)
 }
 
 #[test]
 fn data_are_no_notifications(rt: HostRuntime) -> Result<(), Fail> {
-    let rows = [
+    const ROWS: &[(&str, &str)] = &[
         ("A101000000000800A120000000000200", "note 01"),
         ("A101000000000A00A1200000000002000300", "note 01"),
         (
@@ -197,12 +197,12 @@ fn data_are_no_notifications(rt: HostRuntime) -> Result<(), Fail> {
             "state 0001 note 20",
         ),
     ];
-    check_events(&rt, &rows)
+    check_events(&rt, ROWS)
 }
 
 #[test]
 fn a_fault_empties_what_is_gathered(rt: HostRuntime) -> Result<(), Fail> {
-    let rows = [
+    const ROWS: &[(&str, &str)] = &[
         ("A120000000000200 note.EPROTO=- 0300", ""),
         ("A120000000000200 note.EPROTO=0300", ""),
         ("note.EPIPE=A1200000000002000300", ""),
@@ -229,5 +229,5 @@ fn a_fault_empties_what_is_gathered(rt: HostRuntime) -> Result<(), Fail> {
             "tx 0 -EPIPE state 0003",
         ),
     ];
-    check_events(&rt, &rows)
+    check_events(&rt, ROWS)
 }

@@ -3,8 +3,9 @@ ghost use Rattle.std.specs.Prelude.{IfOk};
 ghost use Rattle.usb_machine.specs.Shapes.{HasWindow};
 
 use crate::tests::completions::{bytes, errno, transfer};
-use crate::tests::printers::{QUESTION, job, printer, push_events};
+use crate::tests::printers::{QUESTION, job, printer, text_of};
 use std::alloc::Global;
+use std::process::Abort;
 use std::test::Fail;
 use usb_machine::Transfer;
 use usb_printer::{Printer, reset_setup, status_setup};
@@ -38,10 +39,29 @@ fn control(alloc: Global, printer: &mut Printer, word: &[u8]) -> Result<Action, 
     Ok(printer.complete(Role::Ctl, code, &t)?)
 }
 
+/// Gives a printer the control transfers of these words, each of which rests.
+fn check_controls<R: Abort + AllocGlobal>(
+    rt: &R,
+    printer: &mut Printer,
+    words: &str,
+) -> Result<(), Fail> {
+    for word in words.split_ascii_whitespace() {
+        let action = control(rt.alloc(), printer, word.as_bytes())?;
+        assert_eq!(rt; action, Action::Rest, "{words}");
+    }
+    Ok(())
+}
+
+/// Gives a printer a job of one byte that came back, of which so many bytes were moved.
+fn finish_job(alloc: Global, printer: &mut Printer, code: Code, moved: u32) -> Result<(), Fail> {
+    let window = job(alloc, 1, 0, 1, moved)?;
+    printer.complete(Role::Write, code, &window)?;
+    Ok(())
+}
+
 #[test]
 fn the_port_tells_its_status_in_one_byte(rt: HostRuntime) -> Result<(), Fail> {
-    let alloc = rt.alloc();
-    let rows = [
+    const ROWS: &[(&str, &str)] = &[
         ("status=18", "port 18"),
         ("status=00", "port 00"),
         ("status=FF", "port FF"),
@@ -55,16 +75,22 @@ fn the_port_tells_its_status_in_one_byte(rt: HostRuntime) -> Result<(), Fail> {
         ("reset=18 id=18 bare=18", ""),
         ("status=10 reset=- status=18", "port 10 port 18"),
     ];
-    for (words, wanted) in &rows {
+    let alloc = rt.alloc();
+    for (words, wanted) in ROWS {
         let mut printer = printer(alloc, &[])?;
-        for word in words.split_ascii_whitespace() {
-            let action = control(alloc, &mut printer, word.as_bytes())?;
-            assert_eq!(rt; action, Action::Rest, "{words}");
-        }
-        let mut text = Buf::of(Vec::new(alloc));
-        push_events(&mut text, printer.events())?;
+        check_controls(&rt, &mut printer, words)?;
+        let text = text_of(alloc, printer.events())?;
         assert_eq!(rt; text.bytes(), wanted.as_bytes(), "{words}");
     }
+    Ok(())
+}
+
+/// Two jobs, of which one fails, and a status behind each.
+fn two_jobs(alloc: Global, printer: &mut Printer) -> Result<(), Fail> {
+    finish_job(alloc, printer, Code::Zero, 1)?;
+    control(alloc, printer, b"status=18")?;
+    finish_job(alloc, printer, Code::Fault(Errno::EPIPE), 0)?;
+    control(alloc, printer, b"status=10")?;
     Ok(())
 }
 
@@ -72,13 +98,8 @@ fn the_port_tells_its_status_in_one_byte(rt: HostRuntime) -> Result<(), Fail> {
 fn id_jobs_and_port_stand_in_their_order(rt: HostRuntime) -> Result<(), Fail> {
     let alloc = rt.alloc();
     let mut printer = printer(alloc, b"\x00\x03X")?;
-    printer.complete(Role::Write, Code::Zero, &job(alloc, 1, 0, 1, 1)?)?;
-    control(alloc, &mut printer, b"status=18")?;
-    let fault = Code::Fault(Errno::EPIPE);
-    printer.complete(Role::Write, fault, &job(alloc, 1, 0, 1, 0)?)?;
-    control(alloc, &mut printer, b"status=10")?;
-    let mut text = Buf::of(Vec::new(alloc));
-    push_events(&mut text, printer.into_events().items())?;
+    two_jobs(alloc, &mut printer)?;
+    let text = text_of(alloc, printer.into_events().items())?;
     assert_eq!(rt;
         text.bytes(),
         b"id X job 7 1 0 port 18 job 7 0 -EPIPE port 10".as_slice()
@@ -93,6 +114,11 @@ fn is_question(t: &Transfer) -> bool {
         && t.buf.bytes() == [0x00].as_slice()
         && t.number == QUESTION
         && !t.short_not_ok
+}
+
+/// Whether a printer asks its question now.
+fn asks(printer: &mut Printer) -> bool {
+    printer.ask().is_some_and(|question| is_question(&question))
 }
 
 /// The question with its answer.
@@ -112,30 +138,34 @@ fn answered(alloc: Global) -> Result<Transfer, Fail>
     })
 }
 
+/// The question of a printer is out until it comes back with this code.
+fn check_question<R: Abort + AllocGlobal>(
+    rt: &R,
+    printer: &mut Printer,
+    code: Code,
+) -> Result<(), Fail> {
+    let alloc = rt.alloc();
+    assert!(rt; asks(printer));
+    assert!(rt; printer.ask().is_none());
+    // Neither another control transfer nor a job frees it.
+    control(alloc, printer, b"status=18")?;
+    finish_job(alloc, printer, Code::Fault(Errno::EPIPE), 0)?;
+    assert!(rt; printer.ask().is_none());
+    let action = printer.complete(Role::Ctl, code, &answered(alloc)?)?;
+    assert_eq!(rt; action, Action::Rest);
+    assert!(rt; asks(printer));
+    Ok(())
+}
+
 #[test]
 fn the_question_is_out_until_it_comes_back(rt: HostRuntime) -> Result<(), Fail> {
-    let alloc = rt.alloc();
-    for code in [
+    const CODES: &[Code] = &[
         Code::Zero,
         Code::Fault(Errno::EPIPE),
         Code::Fault(Errno::ENOENT),
-    ] {
-        let mut printer = printer(alloc, &[])?;
-        let question = printer.ask().ok_or("it is not out")?;
-        assert!(rt; is_question(&question));
-        assert!(rt; printer.ask().is_none());
-        // Neither another control transfer nor a job frees it.
-        control(alloc, &mut printer, b"status=18")?;
-        printer.complete(
-            Role::Write,
-            Code::Fault(Errno::EPIPE),
-            &job(alloc, 1, 0, 1, 0)?,
-        )?;
-        assert!(rt; printer.ask().is_none());
-        let action = printer.complete(Role::Ctl, code, &answered(alloc)?)?;
-        assert_eq!(rt; action, Action::Rest);
-        let anew = printer.ask().ok_or("it came back")?;
-        assert!(rt; is_question(&anew));
+    ];
+    for code in CODES {
+        check_question(&rt, &mut printer(rt.alloc(), &[])?, *code)?;
     }
     Ok(())
 }
@@ -155,21 +185,18 @@ fn a_question_that_was_refused_is_taken_back(rt: HostRuntime) -> Result<(), Fail
 
 #[test]
 fn a_printer_is_asked_by_setup_packets(rt: HostRuntime) -> Result<(), Fail> {
-    assert_eq!(rt;
+    const SETUPS: [[u8; 8]; 4] = [
+        [0xA1, 0x01, 0x00, 0x00, 0x00, 0x00, 0x01, 0x00],
+        [0xA1, 0x01, 0x00, 0x00, 0xFF, 0x00, 0x01, 0x00],
+        [0x21, 0x02, 0x00, 0x00, 0x00, 0x00, 0x00, 0x00],
+        [0x21, 0x02, 0x00, 0x00, 0x05, 0x00, 0x00, 0x00],
+    ];
+    let setups = [
         status_setup(0),
-        [0xA1, 0x01, 0x00, 0x00, 0x00, 0x00, 0x01, 0x00]
-    );
-    assert_eq!(rt;
         status_setup(255),
-        [0xA1, 0x01, 0x00, 0x00, 0xFF, 0x00, 0x01, 0x00]
-    );
-    assert_eq!(rt;
         reset_setup(0),
-        [0x21, 0x02, 0x00, 0x00, 0x00, 0x00, 0x00, 0x00]
-    );
-    assert_eq!(rt;
         reset_setup(5),
-        [0x21, 0x02, 0x00, 0x00, 0x05, 0x00, 0x00, 0x00]
-    );
+    ];
+    assert_eq!(rt; setups, SETUPS);
     Ok(())
 }

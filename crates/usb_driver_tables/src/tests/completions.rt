@@ -40,18 +40,20 @@ fn window(setup: Option<[u8; 8]>, buf: Buf, moved: usize) -> Result<Transfer, Fa
     })
 }
 
+/// The errnos that the tables name.
+const ERRNOS: &[Errno] = &[
+    Errno::ENOENT,
+    Errno::EPIPE,
+    Errno::EPROTO,
+    Errno::EOVERFLOW,
+    Errno::ECONNRESET,
+    Errno::ESHUTDOWN,
+    Errno::EREMOTEIO,
+];
+
 /// The errno of this name.
 pub fn errno(name: &[u8]) -> Result<Errno, Fail> {
-    let errnos = [
-        Errno::ENOENT,
-        Errno::EPIPE,
-        Errno::EPROTO,
-        Errno::EOVERFLOW,
-        Errno::ECONNRESET,
-        Errno::ESHUTDOWN,
-        Errno::EREMOTEIO,
-    ];
-    let errno = errnos.iter().find(|errno| is_text(name, errno.name()));
+    let errno = ERRNOS.iter().find(|errno| is_text(name, errno.name()));
     Ok(*errno.ok_or("no errno of this name")?)
 }
 

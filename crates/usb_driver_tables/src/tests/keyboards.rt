@@ -65,7 +65,7 @@ fn check_events<R: Abort + AllocGlobal>(rt: &R, rows: &[(&str, &str)]) -> Result
 
 #[test]
 fn a_key_is_down_until_it_is_up(rt: HostRuntime) -> Result<(), Fail> {
-    let rows = [
+    const ROWS: &[(&str, &str)] = &[
         ("", ""),
         ("0000000000000000", ""),
         ("0000040000000000", "down 04"),
@@ -79,12 +79,12 @@ fn a_key_is_down_until_it_is_up(rt: HostRuntime) -> Result<(), Fail> {
         ("0000040000000000 0000000000000004", "down 04"),
         ("0000FF0000000000 0000650000000000", "down FF up FF down 65"),
     ];
-    check_events(&rt, &rows)
+    check_events(&rt, ROWS)
 }
 
 #[test]
 fn releases_keep_the_old_order_and_presses_the_new(rt: HostRuntime) -> Result<(), Fail> {
-    let rows = [
+    const ROWS: &[(&str, &str)] = &[
         (
             "0000040000000000 0000040500000000 0000050000000000 0000000000000000",
             "down 04 down 05 up 04 up 05",
@@ -115,12 +115,12 @@ fn releases_keep_the_old_order_and_presses_the_new(rt: HostRuntime) -> Result<()
             "down 04 down 05 down 06",
         ),
     ];
-    check_events(&rt, &rows)
+    check_events(&rt, ROWS)
 }
 
 #[test]
 fn modifiers_come_before_the_keys(rt: HostRuntime) -> Result<(), Fail> {
-    let rows = [
+    const ROWS: &[(&str, &str)] = &[
         ("0100000000000000", "down E0"),
         (
             "FF00000000000000 0000000000000000",
@@ -148,12 +148,12 @@ fn modifiers_come_before_the_keys(rt: HostRuntime) -> Result<(), Fail> {
         // No boot keyboard has a modifier's usage among its codes. Here it is told as any code is.
         ("0200E10000000000", "down E1 down E1"),
     ];
-    check_events(&rt, &rows)
+    check_events(&rt, ROWS)
 }
 
 #[test]
 fn the_reserved_byte_and_codes_up_to_three_are_no_keys(rt: HostRuntime) -> Result<(), Fail> {
-    let rows = [
+    const ROWS: &[(&str, &str)] = &[
         ("00FF000000000000", ""),
         ("0004050000000000 0005050000000000", "down 05"),
         ("0000010203000000", ""),
@@ -162,12 +162,12 @@ fn the_reserved_byte_and_codes_up_to_three_are_no_keys(rt: HostRuntime) -> Resul
         ("0000040000000000 0000020202020202", "down 04 up 04"),
         ("0000040000000000 0000030303030303", "down 04 up 04"),
     ];
-    check_events(&rt, &rows)
+    check_events(&rt, ROWS)
 }
 
 #[test]
 fn a_roll_over_changes_modifiers_alone(rt: HostRuntime) -> Result<(), Fail> {
-    let rows = [
+    const ROWS: &[(&str, &str)] = &[
         ("0000010101010101", ""),
         ("0000010101010101 0000040000000000", "down 04"),
         ("0000040000000000 0000010101010101", "down 04"),
@@ -196,12 +196,12 @@ fn a_roll_over_changes_modifiers_alone(rt: HostRuntime) -> Result<(), Fail> {
         ("0000040000000000 0000010101010104", "down 04"),
         ("0000040000000000 0000010101010100", "down 04 up 04"),
     ];
-    check_events(&rt, &rows)
+    check_events(&rt, ROWS)
 }
 
 #[test]
 fn a_code_that_stands_twice_counts_at_its_first_place(rt: HostRuntime) -> Result<(), Fail> {
-    let rows = [
+    const ROWS: &[(&str, &str)] = &[
         ("0000040400000000", "down 04"),
         ("0000040404040404 0000000000000000", "down 04 up 04"),
         (
@@ -212,12 +212,12 @@ fn a_code_that_stands_twice_counts_at_its_first_place(rt: HostRuntime) -> Result
         ("0000040504000000 0000050000000000", "down 04 down 05 up 04"),
         ("0000040000000000 0000050405050000", "down 04 down 05"),
     ];
-    check_events(&rt, &rows)
+    check_events(&rt, ROWS)
 }
 
 #[test]
 fn fewer_than_eight_bytes_are_no_report(rt: HostRuntime) -> Result<(), Fail> {
-    let rows = [
+    const ROWS: &[(&str, &str)] = &[
         ("-", ""),
         ("00000400000000", ""),
         ("0000040000000000 -", "down 04"),
@@ -231,12 +231,12 @@ fn fewer_than_eight_bytes_are_no_report(rt: HostRuntime) -> Result<(), Fail> {
         ("000004000000000005", "down 04"),
         ("00000400000000000000050000000000", "down 04"),
     ];
-    check_events(&rt, &rows)
+    check_events(&rt, ROWS)
 }
 
 #[test]
 fn a_read_that_failed_says_nothing(rt: HostRuntime) -> Result<(), Fail> {
-    let rows = [
+    const ROWS: &[(&str, &str)] = &[
         ("ENOENT:0000040000000000", ""),
         ("0000040000000000 EPROTO:0000000000000000", "down 04"),
         (
@@ -249,12 +249,12 @@ fn a_read_that_failed_says_nothing(rt: HostRuntime) -> Result<(), Fail> {
             "",
         ),
     ];
-    check_events(&rt, &rows)
+    check_events(&rt, ROWS)
 }
 
 #[test]
 fn lights_are_the_first_byte_that_was_sent(rt: HostRuntime) -> Result<(), Fail> {
-    let rows = [
+    const ROWS: &[(&str, &str)] = &[
         ("led:02", "led 02"),
         ("led:02 led:00", "led 02 led 00"),
         ("led:0703", "led 07"),
@@ -266,17 +266,16 @@ fn lights_are_the_first_byte_that_was_sent(rt: HostRuntime) -> Result<(), Fail> 
             "down 39 led 02 up 39",
         ),
     ];
-    check_events(&rt, &rows)
+    check_events(&rt, ROWS)
 }
 
 #[test]
 fn a_read_goes_on_unless_its_fault_stays(rt: HostRuntime) -> Result<(), Fail> {
-    let alloc = rt.alloc();
-    let again = Action::Again { from: 0, len: 10 };
-    let rows: [(&str, Action); 10] = [
-        ("0000040000000000", again),
-        ("EPROTO:0000040000000000", again),
-        ("EOVERFLOW:0000040000000000", again),
+    const AGAIN: Action = Action::Again { from: 0, len: 10 };
+    const ROWS: &[(&str, Action)] = &[
+        ("0000040000000000", AGAIN),
+        ("EPROTO:0000040000000000", AGAIN),
+        ("EOVERFLOW:0000040000000000", AGAIN),
         ("-", Action::Again { from: 0, len: 2 }),
         ("ENOENT:0000040000000000", Action::Rest),
         ("EPIPE:0000040000000000", Action::Rest),
@@ -285,7 +284,8 @@ fn a_read_goes_on_unless_its_fault_stays(rt: HostRuntime) -> Result<(), Fail> {
         ("led:02", Action::Rest),
         ("unled:02", Action::Rest),
     ];
-    for (word, action) in &rows {
+    let alloc = rt.alloc();
+    for (word, action) in ROWS {
         let mut keyboard = Keyboard::new(alloc);
         let got = complete(alloc, &mut keyboard, word.as_bytes())?;
         assert_eq!(rt; got, *action, "{word}");
@@ -295,13 +295,10 @@ fn a_read_goes_on_unless_its_fault_stays(rt: HostRuntime) -> Result<(), Fail> {
 
 #[test]
 fn lights_are_asked_by_a_setup_packet(rt: HostRuntime) -> Result<(), Fail> {
-    assert_eq!(rt;
-        led_setup(0),
-        [0x21, 0x09, 0x00, 0x02, 0x00, 0x00, 0x01, 0x00]
-    );
-    assert_eq!(rt;
-        led_setup(3),
-        [0x21, 0x09, 0x00, 0x02, 0x03, 0x00, 0x01, 0x00]
-    );
+    const SETUPS: [[u8; 8]; 2] = [
+        [0x21, 0x09, 0x00, 0x02, 0x00, 0x00, 0x01, 0x00],
+        [0x21, 0x09, 0x00, 0x02, 0x03, 0x00, 0x01, 0x00],
+    ];
+    assert_eq!(rt; [led_setup(0), led_setup(3)], SETUPS);
     Ok(())
 }
