@@ -4,7 +4,7 @@ use std::test::Fail;
 
 #[test]
 fn a_scene_begins_with_its_header_and_has_plain_bytes(rt: HostRuntime) -> Result<(), Fail> {
-    let rows = [
+    const ROWS: &[(&str, &str)] = &[
         ("", "1: Header"),
         ("\n", "1: Header"),
         ("\n\n", "2: Header"),
@@ -39,12 +39,12 @@ fn a_scene_begins_with_its_header_and_has_plain_bytes(rt: HostRuntime) -> Result
         ("\n\x01", "2: Byte"),
         ("\x01\n\n", "1: Byte"),
     ];
-    check_bad(&rt, "", &rows)
+    check_bad(&rt, "", ROWS)
 }
 
 #[test]
 fn devices_come_first(rt: HostRuntime) -> Result<(), Fail> {
-    let rows = [
+    const ROWS: &[(&str, &str)] = &[
         ("scene 1", "2: Word"),
         ("scene 2", "2: Word"),
         ("foo", "2: Word"),
@@ -86,12 +86,12 @@ fn devices_come_first(rt: HostRuntime) -> Result<(), Fail> {
         ("device d raw # x\n\n\ndevice d raw", "5: Twice"),
         ("device d raw\ndevice d keyboard", "3: Twice"),
     ];
-    check_bad(&rt, "scene 1\n", &rows)
+    check_bad(&rt, "scene 1\n", ROWS)
 }
 
 #[test]
 fn a_device_has_lines_of_its_own(rt: HostRuntime) -> Result<(), Fail> {
-    let rows = [
+    const ROWS: &[(&str, &str)] = &[
         ("ep", "3: Form"),
         ("ep 81", "3: Form"),
         ("ep 81 bulk 64", "3: Form"),
@@ -139,12 +139,12 @@ fn a_device_has_lines_of_its_own(rt: HostRuntime) -> Result<(), Fail> {
             "6: Name",
         ),
     ];
-    check_bad(&rt, "scene 1\ndevice d raw\n", &rows)
+    check_bad(&rt, "scene 1\ndevice d raw\n", ROWS)
 }
 
 #[test]
 fn an_item_is_of_its_kind(rt: HostRuntime) -> Result<(), Fail> {
-    let rows = [
+    const ROWS: &[(&str, &str)] = &[
         ("answer 81 nck", "5: Form"),
         ("answer 81 Nak", "5: Form"),
         ("answer 81 0*nak", "5: Form"),
@@ -185,13 +185,13 @@ fn an_item_is_of_its_kind(rt: HostRuntime) -> Result<(), Fail> {
     check_bad(
         &rt,
         "scene 1\ndevice d raw\nep 81 bulk 64 0\nep 02 bulk 64 0\n",
-        &rows,
+        ROWS,
     )
 }
 
 #[test]
 fn an_urb_has_a_home_and_options(rt: HostRuntime) -> Result<(), Fail> {
-    let rows = [
+    const ROWS: &[(&str, &str)] = &[
         ("urb a", "5: Form"),
         ("urb a d", "5: Form"),
         ("urb A d 81", "5: Form"),
@@ -237,13 +237,13 @@ fn an_urb_has_a_home_and_options(rt: HostRuntime) -> Result<(), Fail> {
     check_bad(
         &rt,
         "scene 1\ndevice d raw\nep 81 bulk 64 0\nep 02 bulk 64 0\n",
-        &rows,
+        ROWS,
     )
 }
 
 #[test]
 fn a_submit_names_an_urb_and_its_data(rt: HostRuntime) -> Result<(), Fail> {
-    let rows = [
+    const ROWS: &[(&str, &str)] = &[
         ("submit", "8: Form"),
         ("submit A", "8: Form"),
         ("submit b", "8: Name"),
@@ -297,13 +297,13 @@ fn a_submit_names_an_urb_and_its_data(rt: HostRuntime) -> Result<(), Fail> {
     check_bad(
         &rt,
         "scene 1\ndevice d raw\nep 81 bulk 64 0\nep 02 bulk 64 0\nurb a d 81 len 8\nurb o d 02\nthread t\n",
-        &rows,
+        ROWS,
     )
 }
 
 #[test]
 fn other_calls_have_their_forms_and_rules(rt: HostRuntime) -> Result<(), Fail> {
-    let rows = [
+    const ROWS: &[(&str, &str)] = &[
         ("unlink", "8: Form"),
         ("unlink a a", "8: Form"),
         ("unlink a setup:8006000100001200", "8: Form"),
@@ -339,13 +339,13 @@ fn other_calls_have_their_forms_and_rules(rt: HostRuntime) -> Result<(), Fail> {
     check_bad(
         &rt,
         "scene 1\ndevice d raw\nep 81 bulk 64 0\nep 02 bulk 64 0\nurb a d 81 len 8\nurb o d 02\nthread t\n",
-        &rows,
+        ROWS,
     )
 }
 
 #[test]
 fn words_that_are_not_known_here(rt: HostRuntime) -> Result<(), Fail> {
-    let rows = [
+    const ROWS: &[(&str, &str)] = &[
         ("add g a", "8: Word"),
         ("off a", "8: Word"),
         ("first g", "8: Word"),
@@ -380,6 +380,6 @@ fn words_that_are_not_known_here(rt: HostRuntime) -> Result<(), Fail> {
     check_bad(
         &rt,
         "scene 1\ndevice d raw\nep 81 bulk 64 0\nep 02 bulk 64 0\nurb a d 81 len 8\nurb o d 02\nthread t\n",
-        &rows,
+        ROWS,
     )
 }

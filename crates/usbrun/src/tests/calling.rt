@@ -46,6 +46,23 @@ pub fn joined(alloc: Global, front: &str, middle: &str, back: &str) -> Result<Ve
     Ok(text)
 }
 
+/// A call with this word ends so, and writes the two parts of a text.
+fn check_call<R: Abort + AllocGlobal + Threads + Wait + Sync>(
+    rt: &R,
+    word: &str,
+    scene: Vec<u8>,
+    wanted: Status,
+    text: (&str, &str),
+) -> Result<(), Fail> {
+    let alloc = rt.alloc();
+    let (beginning, end) = text;
+    let (status, written) = ended(rt, alloc, &[word], scene, GOOD)?;
+    assert_eq!(rt; status, wanted, "{end}");
+    let text = joined(alloc, beginning, end, "")?;
+    assert_eq!(rt; written.as_slice(), text.as_slice(), "{end}");
+    Ok(())
+}
+
 /// Each scene, between a front and a back, ends so and has this report behind a common beginning.
 pub fn check_reports<R: Abort + AllocGlobal + Threads + Wait + Sync>(
     rt: &R,
@@ -55,13 +72,9 @@ pub fn check_reports<R: Abort + AllocGlobal + Threads + Wait + Sync>(
     beginning: &str,
     rows: &[(&str, &str)],
 ) -> Result<(), Fail> {
-    let alloc = rt.alloc();
     for (middle, report) in rows {
-        let scene = joined(alloc, front, middle, back)?;
-        let wanted = joined(alloc, beginning, report, "")?;
-        let (got, text) = ended(rt, alloc, &["serial"], scene, GOOD)?;
-        assert_eq!(rt; got, status, "{middle}");
-        assert_eq!(rt; text.as_slice(), wanted.as_slice(), "{middle}");
+        let scene = joined(rt.alloc(), front, middle, back)?;
+        check_call(rt, "serial", scene, status, (beginning, report))?;
     }
     Ok(())
 }
@@ -73,13 +86,9 @@ pub fn check_lists<R: Abort + AllocGlobal + Threads + Wait + Sync>(
     beginning: &str,
     rows: &[(&str, &str)],
 ) -> Result<(), Fail> {
-    let alloc = rt.alloc();
     for (lines, report) in rows {
-        let scene = joined(alloc, front, lines, "")?;
-        let wanted = joined(alloc, beginning, report, "")?;
-        let (got, text) = ended(rt, alloc, &["list"], scene, GOOD)?;
-        assert_eq!(rt; got, Status::Done, "{lines}");
-        assert_eq!(rt; text.as_slice(), wanted.as_slice(), "{lines}");
+        let scene = joined(rt.alloc(), front, lines, "")?;
+        check_call(rt, "list", scene, Status::Done, (beginning, report))?;
     }
     Ok(())
 }

@@ -9,7 +9,7 @@ use usb_xfer::Kind;
 
 #[test]
 fn a_keyboard_has_descriptors_and_no_endpoints(rt: HostRuntime) -> Result<(), Fail> {
-    let rows = [
+    const ROWS: &[(&str, &str)] = &[
         ("ep 81 bulk 8 0", "5: Word"),
         ("ep foo", "5: Word"),
         ("id 00", "5: Word"),
@@ -46,13 +46,13 @@ fn a_keyboard_has_descriptors_and_no_endpoints(rt: HostRuntime) -> Result<(), Fa
     check_bad(
         &rt,
         "scene 1\ndevice d raw\nep 81 bulk 8 0\ndevice k keyboard\n",
-        &rows,
+        ROWS,
     )
 }
 
 #[test]
 fn a_device_of_a_class_answers_at_each_address(rt: HostRuntime) -> Result<(), Fail> {
-    let rows = [
+    const ROWS: &[(&str, &str)] = &[
         ("answer 85 p:00 nak\nanswer 05 ack\nfoo", "5: Word"),
         ("answer 00 ack nak stall 2*error\nfoo", "4: Word"),
         ("answer 00 p:", "3: Form"),
@@ -63,12 +63,12 @@ fn a_device_of_a_class_answers_at_each_address(rt: HostRuntime) -> Result<(), Fa
         ("answer 10 nak", "3: Form"),
         ("answer 80 nak", "3: Form"),
     ];
-    check_bad(&rt, "scene 1\ndevice m acm\n", &rows)
+    check_bad(&rt, "scene 1\ndevice m acm\n", ROWS)
 }
 
 #[test]
 fn a_printer_has_an_id_and_a_port_status(rt: HostRuntime) -> Result<(), Fail> {
-    let rows = [
+    const ROWS: &[(&str, &str)] = &[
         ("id", "3: Form"),
         ("id 0", "3: Form"),
         ("id -\nid -", "4: Twice"),
@@ -85,12 +85,12 @@ fn a_printer_has_an_id_and_a_port_status(rt: HostRuntime) -> Result<(), Fail> {
         ("device r raw\nid -", "4: Word"),
         ("ep 01 bulk 8 0", "3: Word"),
     ];
-    check_bad(&rt, "scene 1\ndevice p printer\n", &rows)
+    check_bad(&rt, "scene 1\ndevice p printer\n", ROWS)
 }
 
 #[test]
 fn urbs_of_drivers_are_named_by_device_number_and_role(rt: HostRuntime) -> Result<(), Fail> {
-    let rows = [
+    const ROWS: &[(&str, &str)] = &[
         (
             "kill k.0.in\nkill k.000.ctl\nkill m.255.read1\nkill m.256.read1",
             "11: Limit",
@@ -112,13 +112,13 @@ fn urbs_of_drivers_are_named_by_device_number_and_role(rt: HostRuntime) -> Resul
     check_bad(
         &rt,
         "scene 1\ndevice d raw\nep 81 bulk 8 0\ndevice k keyboard\ndevice m acm\nurb a d 81\nthread t\n",
-        &rows,
+        ROWS,
     )
 }
 
 #[test]
 fn rejects_are_counted_on_the_urbs_of_drivers_too(rt: HostRuntime) -> Result<(), Fail> {
-    let rows = [
+    const ROWS: &[(&str, &str)] = &[
         ("unblock k.0.in", "8: Held"),
         ("unblock k.256.in", "8: Limit"),
         ("block k.0.in\nunblock k.00.in\nunblock k.0.in", "10: Held"),
@@ -137,7 +137,7 @@ fn rejects_are_counted_on_the_urbs_of_drivers_too(rt: HostRuntime) -> Result<(),
     check_bad(
         &rt,
         "scene 1\ndevice d raw\nep 81 bulk 8 0\ndevice k keyboard\ndevice m acm\nurb a d 81\nthread t\n",
-        &rows,
+        ROWS,
     )
 }
 
@@ -183,7 +183,7 @@ fn what_lines_give_is_in_the_scene(rt: HostRuntime) -> Result<(), Fail> {
 
 #[test]
 fn lights_are_set_on_an_interface(rt: HostRuntime) -> Result<(), Fail> {
-    let rows = [
+    const ROWS: &[(&str, &str)] = &[
         ("led", "6: Form"),
         ("led k", "6: Form"),
         ("led k 0", "6: Form"),
@@ -211,6 +211,6 @@ fn lights_are_set_on_an_interface(rt: HostRuntime) -> Result<(), Fail> {
     check_bad(
         &rt,
         "scene 1\ndevice d raw\ndevice k keyboard\ndevice p printer\nthread t\n",
-        &rows,
+        ROWS,
     )
 }

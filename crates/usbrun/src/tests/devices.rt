@@ -7,7 +7,7 @@ const KEYBOARD: &str = "scene 1\ndevice k keyboard\n";
 
 #[test]
 fn replies_that_are_no_device(rt: HostRuntime) -> Result<(), Fail> {
-    let rows = [
+    const ROWS: &[(&str, &str)] = &[
         ("desc -\n", "fault Short 0\n"),
         ("desc 12\n", "fault Short 1\n"),
         ("desc 12010002000000\n", "fault Short 7\n"),
@@ -51,12 +51,12 @@ fn replies_that_are_no_device(rt: HostRuntime) -> Result<(), Fail> {
         ),
         ("", "fault Status GET_DESCRIPTOR -EPIPE\n"),
     ];
-    check_lists(&rt, KEYBOARD, "device k ", &rows)
+    check_lists(&rt, KEYBOARD, "device k ", ROWS)
 }
 
 #[test]
 fn replies_that_are_no_configuration(rt: HostRuntime) -> Result<(), Fail> {
-    let rows = [
+    const ROWS: &[(&str, &str)] = &[
         ("config -\n", "fault Short 0\n"),
         ("config 09\n", "fault Short 1\n"),
         ("config 09022200010100A0\n", "fault Short 8\n"),
@@ -78,12 +78,12 @@ fn replies_that_are_no_configuration(rt: HostRuntime) -> Result<(), Fail> {
             "1209:0001\n",
         ),
     ];
-    check_lists(&rt, KEYBOARD, "device k ", &rows)
+    check_lists(&rt, KEYBOARD, "device k ", ROWS)
 }
 
 #[test]
 fn configurations_with_a_broken_descriptor(rt: HostRuntime) -> Result<(), Fail> {
-    let rows = [
+    const ROWS: &[(&str, &str)] = &[
         ("config 09020A00010100A032 07\n", "fault Short 9\n"),
         (
             "config 09021100010100A032 0804000001030101\n",
@@ -129,12 +129,12 @@ fn configurations_with_a_broken_descriptor(rt: HostRuntime) -> Result<(), Fail> 
             "fault TwiceEndpoint 32\n",
         ),
     ];
-    check_lists(&rt, KEYBOARD, "device k ", &rows)
+    check_lists(&rt, KEYBOARD, "device k ", ROWS)
 }
 
 #[test]
 fn configurations_at_their_limits(rt: HostRuntime) -> Result<(), Fail> {
-    let rows = [
+    const ROWS: &[(&str, &str)] = &[
         (
             "config 0902E400010100A032 0904000000FF000000 07058103080000 07058203080000 07058303080000 07058403080000 07058503080000 07058603080000 07058703080000 07058803080000 07058903080000 07058A03080000 07058B03080000 07058C03080000 07058D03080000 07058E03080000 07058F03080000 07050103080000 07050203080000 07050303080000 07050403080000 07050503080000 07050603080000 07050703080000 07050803080000 07050903080000 07050A03080000 07050B03080000 07050C03080000 07050D03080000 07050E03080000 07050F03080000\n",
             "1209:0001\ninterface 0 vendor FF/00/00 none\n",
@@ -156,12 +156,12 @@ fn configurations_at_their_limits(rt: HostRuntime) -> Result<(), Fail> {
             "fault Limit 585\n",
         ),
     ];
-    check_lists(&rt, KEYBOARD, "device k ", &rows)
+    check_lists(&rt, KEYBOARD, "device k ", ROWS)
 }
 
 #[test]
 fn interfaces_that_no_keyboard_driver_takes(rt: HostRuntime) -> Result<(), Fail> {
-    let rows = [
+    const ROWS: &[(&str, &str)] = &[
         (
             "config 09021200010100A032 090400000103010100\n",
             "1209:0001\ninterface 0 hid 03/01/01 none\n",
@@ -239,12 +239,12 @@ fn interfaces_that_no_keyboard_driver_takes(rt: HostRuntime) -> Result<(), Fail>
             "1209:0001\ninterface 0 - 0E/01/00 none\ninterface 1 hub 09/00/00 none\n",
         ),
     ];
-    check_lists(&rt, KEYBOARD, "device k ", &rows)
+    check_lists(&rt, KEYBOARD, "device k ", ROWS)
 }
 
 #[test]
 fn probes_whose_requests_are_answered_by_items(rt: HostRuntime) -> Result<(), Fail> {
-    let rows = [
+    const ROWS: &[(&str, &str)] = &[
         (
             "config 09021900010100A032 090400000103010100 0705810308000A\nanswer 00 error\n",
             "1209:0001\ninterface 0 hid 03/01/01 fail\n",
@@ -286,12 +286,12 @@ fn probes_whose_requests_are_answered_by_items(rt: HostRuntime) -> Result<(), Fa
             "1209:0001\ninterface 0 hid 03/01/01 fail\ninterface 1 hid 03/01/01 usbkbd\n",
         ),
     ];
-    check_lists(&rt, KEYBOARD, "device k ", &rows)
+    check_lists(&rt, KEYBOARD, "device k ", ROWS)
 }
 
 #[test]
 fn interfaces_of_printers(rt: HostRuntime) -> Result<(), Fail> {
-    let rows = [
+    const ROWS: &[(&str, &str)] = &[
         (
             "config 09021900010100A032 090400000207010200 07050102400000\n",
             "1209:0001\ninterface 0 printer 07/01/02 usblp\n",
@@ -333,12 +333,12 @@ fn interfaces_of_printers(rt: HostRuntime) -> Result<(), Fail> {
             "1209:0001\ninterface 0 printer 07/01/02 usblp\n",
         ),
     ];
-    check_lists(&rt, KEYBOARD, "device k ", &rows)
+    check_lists(&rt, KEYBOARD, "device k ", ROWS)
 }
 
 #[test]
 fn interfaces_of_serial_ports(rt: HostRuntime) -> Result<(), Fail> {
-    let rows = [
+    const ROWS: &[(&str, &str)] = &[
         (
             "config 09023500010100A032 090400000102020100 0524060001 07058203080010 09040100020A000000 07050102400000 07058102400000\n",
             "1209:0001\ninterface 0 comm 02/02/01 cdc_acm\ninterface 1 cdcdata 0A/00/00 cdc_acm\n",
@@ -420,5 +420,5 @@ fn interfaces_of_serial_ports(rt: HostRuntime) -> Result<(), Fail> {
             "1209:0001\ninterface 255 comm 02/02/01 none\n",
         ),
     ];
-    check_lists(&rt, KEYBOARD, "device k ", &rows)
+    check_lists(&rt, KEYBOARD, "device k ", ROWS)
 }

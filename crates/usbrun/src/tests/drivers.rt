@@ -10,7 +10,7 @@ const FOUND: &str = "device k 1209:0001\ninterface 0 hid 03/01/01 usbkbd\n";
 
 #[test]
 fn a_read_goes_on_or_rests_by_its_status(rt: HostRuntime) -> Result<(), Fail> {
-    let rows = [
+    const ROWS: &[(&str, &str)] = &[
         // Nothing is said: the close kills the read.
         (
             "thread t\nserve\n",
@@ -46,12 +46,12 @@ fn a_read_goes_on_or_rests_by_its_status(rt: HostRuntime) -> Result<(), Fail> {
             "thread t\n6 poison k.0.in buffer 2000000\n7 unpoison k.0.in ok\ngiven\nk.0.in -ENOENT 0 rest -\ndriver k 0 usbkbd\n",
         ),
     ];
-    check_reports(&rt, KEYBOARD, "", Status::Done, FOUND, &rows)
+    check_reports(&rt, KEYBOARD, "", Status::Done, FOUND, ROWS)
 }
 
 #[test]
 fn a_report_comes_in_packets_of_any_size(rt: HostRuntime) -> Result<(), Fail> {
-    let rows = [
+    const ROWS: &[(&str, &str)] = &[
         (
             "0705810301000A\nanswer 81 p:00 p:00 p:04 p:00 p:00 p:00 p:00 p:00 p:00 p:\nthread t\nserve\n",
             "thread t\ngiven\nk.0.in 0 8 again 0 0000040000000000\nk.0.in 0 1 again 0 00\nk.0.in -ENOENT 0 rest -\ndriver k 0 usbkbd\ndown 04 a\n",
@@ -87,13 +87,13 @@ fn a_report_comes_in_packets_of_any_size(rt: HostRuntime) -> Result<(), Fail> {
         "",
         Status::Done,
         FOUND,
-        &rows,
+        ROWS,
     )
 }
 
 #[test]
 fn lights_are_set_by_control_transfers(rt: HostRuntime) -> Result<(), Fail> {
-    let rows = [
+    const ROWS: &[(&str, &str)] = &[
         // One at a time, each with the number of its line.
         (
             "thread t\nled k 0 05\nled k 0 06\nserve\nled k 000 07\nserve\n",
@@ -122,12 +122,12 @@ fn lights_are_set_by_control_transfers(rt: HostRuntime) -> Result<(), Fail> {
             "thread t\n6 led k 0 0\n8 led k 0 0\ngiven\nk.0.ctl 0 1 rest -\nk.0.in 0 8 again 0 0000040000000000\nk.0.ctl 0 1 rest -\nk.0.in 0 8 again 0 0000000000000000\nk.0.in -ENOENT 0 rest -\ndriver k 0 usbkbd\nled 02\ndown 04 a\nled 00\nup 04 a\n",
         ),
     ];
-    check_reports(&rt, KEYBOARD, "", Status::Done, FOUND, &rows)
+    check_reports(&rt, KEYBOARD, "", Status::Done, FOUND, ROWS)
 }
 
 #[test]
 fn a_keyboard_without_control_packets_takes_no_lights(rt: HostRuntime) -> Result<(), Fail> {
-    let rows = [
+    const ROWS: &[(&str, &str)] = &[
         (
             "desc 120100020000000009120100000100000001\nconfig 09022200010100A032 090400000103010100 092111010001223F00 0705810308000A\nthread t\nled k 0 01\n",
             "interface 0 hid 03/01/01 usbkbd\nthread t\n6 led k 0 -EMSGSIZE\ngiven\nk.0.in -ENOENT 0 rest -\ndriver k 0 usbkbd\n",
@@ -144,6 +144,6 @@ fn a_keyboard_without_control_packets_takes_no_lights(rt: HostRuntime) -> Result
         "",
         Status::Done,
         "device k 1209:0001\n",
-        &rows,
+        ROWS,
     )
 }

@@ -41,10 +41,15 @@ fn repeated(
     Ok(text)
 }
 
-fn check_done<R: Abort + AllocGlobal + Threads + Wait + Sync>(
+/// A scene runs, where no fault is named, and else has this fault.
+fn check_scene<R: Abort + AllocGlobal + Threads + Wait + Sync>(
     rt: &R,
     scene: Vec<u8>,
+    fault: &str,
 ) -> Result<(), Fail> {
+    if !fault.is_empty() {
+        return check_fault(rt, scene, fault);
+    }
     let (status, _) = ended(rt, rt.alloc(), &["serial"], scene, GOOD)?;
     assert_eq!(rt; status, Status::Done);
     Ok(())
@@ -52,69 +57,41 @@ fn check_done<R: Abort + AllocGlobal + Threads + Wait + Sync>(
 
 #[test]
 fn so_many_things_may_be_declared(rt: HostRuntime) -> Result<(), Fail> {
-    let alloc = rt.alloc();
-    check_done(&rt, numbered(alloc, "scene 1\n", "device d", " raw", 16)?)?;
-    check_fault(
-        &rt,
-        numbered(alloc, "scene 1\n", "device d", " raw", 17)?,
-        "18: Limit",
-    )?;
-    check_done(&rt, numbered(alloc, END, "urb u", " d 81", 256)?)?;
-    check_fault(
-        &rt,
-        numbered(alloc, END, "urb u", " d 81", 257)?,
-        "260: Limit",
-    )?;
-    check_done(&rt, numbered(alloc, "scene 1\n", "thread t", "", 16)?)?;
-    check_fault(
-        &rt,
-        numbered(alloc, "scene 1\n", "thread t", "", 17)?,
-        "18: Limit",
-    )
+    const ROWS: &[(&str, &str, &str, u32, &str)] = &[
+        ("scene 1\n", "device d", " raw", 16, ""),
+        ("scene 1\n", "device d", " raw", 17, "18: Limit"),
+        (END, "urb u", " d 81", 256, ""),
+        (END, "urb u", " d 81", 257, "260: Limit"),
+        ("scene 1\n", "thread t", "", 16, ""),
+        ("scene 1\n", "thread t", "", 17, "18: Limit"),
+    ];
+    for (front, first, rest, times, fault) in ROWS {
+        let scene = numbered(rt.alloc(), front, first, rest, *times)?;
+        check_scene(&rt, scene, fault)?;
+    }
+    Ok(())
 }
 
 #[test]
 fn so_many_items_and_calls_may_stand(rt: HostRuntime) -> Result<(), Fail> {
-    let alloc = rt.alloc();
-    let answer = "scene 1\ndevice d raw\nep 81 bulk 64 0\nanswer 81";
-    let block = "scene 1\ndevice d raw\nep 81 bulk 64 0\nurb a d 81\nthread t\n";
-    check_done(&rt, repeated(alloc, answer, " 4096*nak", 16, "")?)?;
-    check_fault(
-        &rt,
-        repeated(alloc, answer, " 4096*nak", 16, "\nanswer 81 nak")?,
-        "5: Limit",
-    )?;
-    check_fault(
-        &rt,
-        repeated(alloc, answer, " 4096*nak", 17, "")?,
-        "4: Limit",
-    )?;
-    check_done(
-        &rt,
-        repeated(alloc, "scene 1\nthread t\n", "serve\n", 4096, "")?,
-    )?;
-    check_fault(
-        &rt,
-        repeated(
-            alloc,
-            "scene 1\nthread t\n",
-            "serve\n",
-            4096,
-            "thread u\nserve",
-        )?,
-        "4100: Limit",
-    )?;
-    check_done(&rt, repeated(alloc, block, "block a\n", 100, "")?)?;
-    check_fault(
-        &rt,
-        repeated(alloc, block, "block a\n", 101, "")?,
-        "106: Limit",
-    )?;
-    check_fault(
-        &rt,
-        repeated(alloc, block, "block a\n", 100, "poison a")?,
-        "106: Limit",
-    )
+    const ANSWER: &str = "scene 1\ndevice d raw\nep 81 bulk 64 0\nanswer 81";
+    const BLOCK: &str = "scene 1\ndevice d raw\nep 81 bulk 64 0\nurb a d 81\nthread t\n";
+    const CALLS: &str = "scene 1\nthread t\n";
+    const ROWS: &[(&str, &str, u32, &str, &str)] = &[
+        (ANSWER, " 4096*nak", 16, "", ""),
+        (ANSWER, " 4096*nak", 16, "\nanswer 81 nak", "5: Limit"),
+        (ANSWER, " 4096*nak", 17, "", "4: Limit"),
+        (CALLS, "serve\n", 4096, "", ""),
+        (CALLS, "serve\n", 4096, "thread u\nserve", "4100: Limit"),
+        (BLOCK, "block a\n", 100, "", ""),
+        (BLOCK, "block a\n", 101, "", "106: Limit"),
+        (BLOCK, "block a\n", 100, "poison a", "106: Limit"),
+    ];
+    for (front, piece, times, back, fault) in ROWS {
+        let scene = repeated(rt.alloc(), front, piece, *times, back)?;
+        check_scene(&rt, scene, fault)?;
+    }
+    Ok(())
 }
 
 #[test]

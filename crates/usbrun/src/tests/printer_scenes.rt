@@ -5,7 +5,7 @@ use usb_run::Status;
 
 #[test]
 fn jobs_of_printers(rt: HostRuntime) -> Result<(), Fail> {
-    let rows = [
+    const ROWS: &[(&str, &str)] = &[
         (
             "# Two jobs, one after the other: the driver keeps no second one. A job goes out in windows of at most 8,192 bytes, and is\n# told when it ends. What the printer received is counted, and begins with the first job.\nscene 1\ndevice prn printer\nconfig 09022000010100C000 090400000207010200 07050102400000 07058202400000\nid 00084D46473A413B\nthread t\nprint prn 0 48656C6C6F0A\nprint prn 0 fill:8193:41\nserve\nprint prn 0 fill:8193:41\nserve\n",
             "device prn 1209:0001\ninterface 0 printer 07/01/02 usblp\nthread t\n8 print prn 0 0\n9 print prn 0 -EBUSY\n11 print prn 0 0\ngiven\nprn.0.write 0 6 rest -\nprn.0.write 0 8192 again 0 -\nprn.0.write 0 1 rest -\ndriver prn 0 usblp\nid MFG:A;\njob 8 6 0\njob 11 8193 0\nreceived\nprn 01 8199 48656C6C6F0A41414141414141414141414141414141414141414141414141414141414141414141414141414141414141414141414141414141414141414141\n",
@@ -23,12 +23,12 @@ fn jobs_of_printers(rt: HostRuntime) -> Result<(), Fail> {
             "device prn 1209:0001\ninterface 0 printer 07/01/02 usblp\nthread t\n7 print prn 0 0\ngiven\nprn.0.write 0 0 rest -\ndriver prn 0 usblp\njob 7 0 0\n",
         ),
     ];
-    check_reports(&rt, "", "", Status::Done, "", &rows)
+    check_reports(&rt, "", "", Status::Done, "", ROWS)
 }
 
 #[test]
 fn requests_of_printers(rt: HostRuntime) -> Result<(), Fail> {
-    let rows = [
+    const ROWS: &[(&str, &str)] = &[
         (
             "# The driver's question waits at a nak, and is out: behind the second job, which fails too, nobody asks, and what the\n# script asks is refused. The third job fails while a request of the script's waits: the question is refused, and can be\n# asked behind the next.\nscene 1\ndevice prn printer\nconfig 09022000010100C000 090400000207010200 07050102400000 07058202400000\nanswer 00 ack 2*nak ack nak\nanswer 01 4*stall\nthread t\nprint prn 0 48\nserve\nstatus prn 0\nprint prn 0 49\nserve\nserve\nstatus prn 0\nprint prn 0 4A\nserve\nserve\nprint prn 0 4B\nserve\n",
             "device prn 1209:0001\ninterface 0 printer 07/01/02 usblp\nthread t\n10 print prn 0 0\n12 status prn 0 -EBUSY\n13 print prn 0 0\n16 status prn 0 0\n17 print prn 0 0\n20 print prn 0 0\ngiven\nprn.0.write -EPIPE 0 ask 0 -\nprn.0.write -EPIPE 0 rest -\nprn.0.ctl 0 1 rest 18\nprn.0.write -EPIPE 0 ask -EBUSY -\nprn.0.ctl 0 1 rest 18\nprn.0.write -EPIPE 0 ask 0 -\nprn.0.ctl 0 1 rest 18\ndriver prn 0 usblp\njob 10 0 -EPIPE\njob 13 0 -EPIPE\nport 18\njob 17 0 -EPIPE\nport 18\njob 20 0 -EPIPE\nport 18\n",
@@ -42,14 +42,14 @@ fn requests_of_printers(rt: HostRuntime) -> Result<(), Fail> {
             "device dots 1209:0001\ninterface 0 printer 07/01/02 usblp\ndevice more 1209:0001\ninterface 0 printer 07/01/02 usblp\ndevice less 1209:0001\ninterface 0 printer 07/01/02 usblp\ndevice none 1209:0001\ninterface 0 printer 07/01/02 usblp\ndevice mute 1209:0001\ninterface 0 printer 07/01/02 usblp\ndevice gone 1209:0001\ninterface 0 printer 07/01/02 fail\nthread t\n24 print gone 0 -ENODEV\n25 print mute 0 0\ngiven\nmute.0.write 0 0 rest -\ndriver dots 0 usblp\nid MDL:.A~..;\ndriver more 0 usblp\nid MF\ndriver less 0 usblp\nid MF\ndriver none 0 usblp\nid -\ndriver mute 0 usblp\njob 25 0 0\n",
         ),
     ];
-    check_reports(&rt, "", "", Status::Done, "", &rows)
+    check_reports(&rt, "", "", Status::Done, "", ROWS)
 }
 
 #[test]
 fn what_printers_are_found_to_be(rt: HostRuntime) -> Result<(), Fail> {
-    let rows = [(
+    const ROWS: &[(&str, &str)] = &[(
         "# What a printer says of itself when its driver probes. The first two bytes are the length of the whole, the high byte\n# first; a byte that is not printable is a dot. One says that it is longer than it is, one shorter, one is empty, one\n# printer has none, and the last does not answer, so the driver lets it go.\nscene 1\ndevice dots printer\nconfig 09022000010100C000 090400000207010200 07050102400000 07058202400000\nid 000C 4D444C3A 0A 417E 7F80 3B\ndevice more printer\nconfig 09022000010100C000 090400000207010200 07050102400000 07058202400000\nid 00FF 4D46\ndevice less printer\nconfig 09022000010100C000 090400000207010200 07050102400000 07058202400000\nid 0004 4D464747\ndevice none printer\nconfig 09022000010100C000 090400000207010200 07050102400000 07058202400000\nid 0002\ndevice mute printer\nconfig 09022000010100C000 090400000207010200 07050102400000 07058202400000\ndevice gone printer\nconfig 09022000010100C000 090400000207010200 07050102400000 07058202400000\nid 0003 41\nanswer 00 error\nthread t\nprint gone 0 00\nprint mute 0 -\nserve\n",
         "device dots 1209:0001\ninterface 0 printer 07/01/02 usblp\ndevice more 1209:0001\ninterface 0 printer 07/01/02 usblp\ndevice less 1209:0001\ninterface 0 printer 07/01/02 usblp\ndevice none 1209:0001\ninterface 0 printer 07/01/02 usblp\ndevice mute 1209:0001\ninterface 0 printer 07/01/02 usblp\ndevice gone 1209:0001\ninterface 0 printer 07/01/02 fail\n",
     )];
-    check_lists(&rt, "", "", &rows)
+    check_lists(&rt, "", "", ROWS)
 }

@@ -5,7 +5,7 @@ use usb_run::Status;
 
 #[test]
 fn an_urb_is_unlinked_killed_and_poisoned(rt: HostRuntime) -> Result<(), Fail> {
-    let rows = [
+    const ROWS: &[(&str, &str)] = &[
         (
             "scene 1\ndevice d raw\nep 81 bulk 64 0\nanswer 81 p:0102030405060708\nurb a d 81 len 8\nthread t\nsubmit a\nunlink a\nunlink a\nserve\nunlink a\n",
             "thread t\n7 submit a 0\n8 unlink a -EINPROGRESS\n9 unlink a -EBUSY\n11 unlink a -EIDRM\ngiven\na -ECONNRESET 0 rest -\n",
@@ -27,12 +27,12 @@ fn an_urb_is_unlinked_killed_and_poisoned(rt: HostRuntime) -> Result<(), Fail> {
             "thread hub\n7 down ok\n8 submit a -ESHUTDOWN\n9 up ok\n10 submit a 0\ngiven\na 0 8 rest 0102030405060708\n",
         ),
     ];
-    check_reports(&rt, "", "", Status::Done, "", &rows)
+    check_reports(&rt, "", "", Status::Done, "", ROWS)
 }
 
 #[test]
 fn packets_move_transfers_of_both_directions(rt: HostRuntime) -> Result<(), Fail> {
-    let rows = [
+    const ROWS: &[(&str, &str)] = &[
         (
             "scene 1\ndevice d raw\nep 81 bulk 64 0\nanswer 81 p:fill:64:11 p:fill:64:22 p:\nurb a d 81 len 128\nurb b d 81 len 64\nthread t\nsubmit a\nsubmit b\nserve\n",
             "thread t\n8 submit a 0\n9 submit b 0\ngiven\na 0 128 rest 1111111111111111111111111111111111111111111111111111111111111111111111111111111111111111111111111111111111111111111111111111111122222222222222222222222222222222222222222222222222222222222222222222222222222222222222222222222222222222222222222222222222222222\nb 0 0 rest -\n",
@@ -46,12 +46,12 @@ fn packets_move_transfers_of_both_directions(rt: HostRuntime) -> Result<(), Fail
             "thread t\n6 submit o 0\ngiven\no 0 2 rest -\nreceived\nd 02 2 0A0B\n",
         ),
     ];
-    check_reports(&rt, "", "", Status::Done, "", &rows)
+    check_reports(&rt, "", "", Status::Done, "", ROWS)
 }
 
 #[test]
 fn a_reply_in_the_middle_ends_or_delays_a_transfer(rt: HostRuntime) -> Result<(), Fail> {
-    let rows = [
+    const ROWS: &[(&str, &str)] = &[
         (
             "scene 1\ndevice d raw\nep 81 bulk 64 0\nanswer 81 p:fill:64:11 stall p:fill:64:22\nurb a d 81 len 128\nthread t\nsubmit a\nserve\nserve\n",
             "thread t\n7 submit a 0\ngiven\na -EPIPE 64 rest 11111111111111111111111111111111111111111111111111111111111111111111111111111111111111111111111111111111111111111111111111111111\n",
@@ -69,12 +69,12 @@ fn a_reply_in_the_middle_ends_or_delays_a_transfer(rt: HostRuntime) -> Result<()
             "thread t\n7 submit a 0\ngiven\na 0 128 rest 1111111111111111111111111111111111111111111111111111111111111111111111111111111111111111111111111111111111111111111111111111111122222222222222222222222222222222222222222222222222222222222222222222222222222222222222222222222222222222222222222222222222222222\n",
         ),
     ];
-    check_reports(&rt, "", "", Status::Done, "", &rows)
+    check_reports(&rt, "", "", Status::Done, "", ROWS)
 }
 
 #[test]
 fn control_transfers_need_a_setup_packet_that_fits(rt: HostRuntime) -> Result<(), Fail> {
-    let rows = [
+    const ROWS: &[(&str, &str)] = &[
         (
             "scene 1\ndevice d raw\nep 82 int 8 0\nep 83 bulk 0 0\nurb c d 00 len 17\nurb i d 82 len 8\nurb z d 83 len 8\nthread t\nsubmit c setup:8006000100001200\nsubmit c\nsubmit i\nsubmit z\n",
             "thread t\n9 submit c -EBADR\n10 submit c -ENOEXEC\n11 submit i -EINVAL\n12 submit z -EMSGSIZE\n",
@@ -88,12 +88,12 @@ fn control_transfers_need_a_setup_packet_that_fits(rt: HostRuntime) -> Result<()
             "thread t\n7 submit c -ENOEXEC\n8 submit c -EBADR\n9 submit c 0\n11 submit c 0\n13 submit c 0\n15 submit c 0\ngiven\nc 0 8 rest 1201000200000040\nc 0 0 rest -\nc -EPIPE 0 rest -\nc -EPIPE 0 rest -\n",
         ),
     ];
-    check_reports(&rt, "", "", Status::Done, "", &rows)
+    check_reports(&rt, "", "", Status::Done, "", ROWS)
 }
 
 #[test]
 fn the_gallery_of_one_submit(rt: HostRuntime) -> Result<(), Fail> {
-    let rows = [
+    const ROWS: &[(&str, &str)] = &[
         (
             "scene 1\ndevice d raw\nep 81 bulk 64 0\nanswer 81 p:0102030405060708\nurb a d 81 len 8\nthread t\nsubmit a\nserve\n",
             "thread t\n7 submit a 0\ngiven\na 0 8 rest 0102030405060708\n",
@@ -111,12 +111,12 @@ fn the_gallery_of_one_submit(rt: HostRuntime) -> Result<(), Fail> {
             "thread t\n8 submit a 0\n10 submit a 0\n12 submit a 0\ngiven\na -EPIPE 4 rest 01020304\na -EPROTO 0 rest -\na -EOVERFLOW 0 rest -\n",
         ),
     ];
-    check_reports(&rt, "", "", Status::Done, "", &rows)
+    check_reports(&rt, "", "", Status::Done, "", ROWS)
 }
 
 #[test]
 fn the_gallery_of_calls(rt: HostRuntime) -> Result<(), Fail> {
-    let rows = [
+    const ROWS: &[(&str, &str)] = &[
         (
             "# An unlinked URB comes back first; a second unlink finds the mark, and one behind the giveback finds nothing.\nscene 1\ndevice d raw\nep 81 bulk 64 0\nanswer 81 p:01 p:02\nurb a d 81 len 8\nurb b d 81 len 8\nthread t\nsubmit a\nsubmit b\nunlink b\nunlink b\nserve\nunlink b\n",
             "thread t\n9 submit a 0\n10 submit b 0\n11 unlink b -EINPROGRESS\n12 unlink b -EBUSY\n14 unlink b -EIDRM\ngiven\nb -ECONNRESET 0 rest -\na 0 1 rest 01\n",
@@ -138,12 +138,12 @@ fn the_gallery_of_calls(rt: HostRuntime) -> Result<(), Fail> {
             "thread t\n9 submit a 0\n11 submit b 0\n12 kill b buffer 11\ngiven\na 0 1 again 0 01\na 0 1 again 0 02\na 0 1 rest 03\nb -ENOENT 0 again -EPERM -\n",
         ),
     ];
-    check_reports(&rt, "", "", Status::Done, "", &rows)
+    check_reports(&rt, "", "", Status::Done, "", ROWS)
 }
 
 #[test]
 fn the_gallery_of_transfers(rt: HostRuntime) -> Result<(), Fail> {
-    let rows = [
+    const ROWS: &[(&str, &str)] = &[
         (
             "# Counted items, and the three spellings of bytes.\nscene 1\ndevice d raw\nep 8a int 4 1\nep 0b bulk 4 0\nanswer 8A 2*p:fill:4:0a p: 2*nak\nanswer 8A p:C0ffee\nanswer 0b 3*nak ack\nurb a d 8a len 12\nurb b d 0B\nthread t\nsubmit a\nsubmit b fill:2:5a - 01\nserve\nsubmit a 000000\nserve\nserve\nserve\n",
             "thread t\n12 submit a 0\n13 submit b 0\n15 submit a 0\ngiven\na 0 8 rest 0A0A0A0A0A0A0A0A\na 0 3 rest C0FFEE\nb 0 3 rest -\nreceived\nd 0B 3 5A5A01\n",
@@ -161,12 +161,12 @@ fn the_gallery_of_transfers(rt: HostRuntime) -> Result<(), Fail> {
             "thread t\n9 submit b 0\n10 submit a 0\ngiven\na -ENOENT 0 rest -\nb -ENOENT 4 rest 11111111\n",
         ),
     ];
-    check_reports(&rt, "", "", Status::Done, "", &rows)
+    check_reports(&rt, "", "", Status::Done, "", ROWS)
 }
 
 #[test]
 fn the_gallery_of_devices_of_a_class(rt: HostRuntime) -> Result<(), Fail> {
-    let rows = [
+    const ROWS: &[(&str, &str)] = &[
         (
             "# A boot keyboard, as a host finds it: its configuration (34 bytes in all), interface 0 of class 03, subclass 01 and\n# protocol 01, the HID descriptor, and the interrupt IN endpoint 81 with packets of 8 bytes.\nscene 1\ndevice kbd keyboard\nconfig 09022200010100A032 090400000103010100 092111010001223F00 0705810308000A\nthread t\nblock kbd.0.in\nunblock kbd.0.in\nkill kbd.0.ctl\nunlink kbd.0.in\nunlink kbd.0.read0\nunlink kbd.1.in\n",
             "device kbd 1209:0001\ninterface 0 hid 03/01/01 usbkbd\nthread t\n7 block kbd.0.in ok\n8 unblock kbd.0.in ok\n9 kill kbd.0.ctl none\n10 unlink kbd.0.in -EINPROGRESS\n11 unlink kbd.0.read0 -ENODEV\n12 unlink kbd.1.in -ENODEV\ngiven\nkbd.0.in -ECONNRESET 0 rest -\ndriver kbd 0 usbkbd\n",
@@ -192,12 +192,12 @@ fn the_gallery_of_devices_of_a_class(rt: HostRuntime) -> Result<(), Fail> {
             "device a 1209:0001\ninterface 0 hid 03/01/01 none\ndevice b 1209:0001\ninterface 0 hid 03/01/01 fail\ndevice c 1209:0001\ninterface 0 comm 02/02/01 cdc_acm\ninterface 1 cdcdata 0A/00/00 cdc_acm\ninterface 2 comm 02/02/01 busy\ngiven\nc.0.note -ENOENT 0 rest -\nc.0.read0 -ENOENT 0 rest -\nc.0.read1 -ENOENT 0 rest -\ndriver c 0 cdc_acm\n",
         ),
     ];
-    check_reports(&rt, "", "", Status::Done, "", &rows)
+    check_reports(&rt, "", "", Status::Done, "", ROWS)
 }
 
 #[test]
 fn the_gallery_of_keyboards(rt: HostRuntime) -> Result<(), Fail> {
-    let rows = [
+    const ROWS: &[(&str, &str)] = &[
         (
             "# Somebody types \"Hi\" on a boot keyboard and sets caps lock. Its configuration (34 bytes in all) has interface 0 of class\n# 03, subclass 01 and protocol 01, the HID descriptor, and the interrupt IN endpoint 81 with packets of 8 bytes. Each\n# packet is a report: modifiers, a reserved byte, six codes. At the nak it has nothing to say, until the next serve.\nscene 1\ndevice kbd keyboard\nconfig 09022200010100A032 090400000103010100 092111010001223F00 0705810308000A\nanswer 81 p:0200000000000000 p:02000B0000000000 p:0200000000000000 p:0000000000000000 nak\nanswer 81 p:00000C0000000000 p:0000000000000000\nthread t\nserve\nled kbd 0 02\nserve\n",
             "device kbd 1209:0001\ninterface 0 hid 03/01/01 usbkbd\nthread t\n11 led kbd 0 0\ngiven\nkbd.0.in 0 8 again 0 0200000000000000\nkbd.0.in 0 8 again 0 02000B0000000000\nkbd.0.in 0 8 again 0 0200000000000000\nkbd.0.in 0 8 again 0 0000000000000000\nkbd.0.ctl 0 1 rest -\nkbd.0.in 0 8 again 0 00000C0000000000\nkbd.0.in 0 8 again 0 0000000000000000\nkbd.0.in -ENOENT 0 rest -\ndriver kbd 0 usbkbd\ndown E1 leftshift\ndown 0B h\nup 0B h\nup E1 leftshift\nled 02\ndown 0C i\nup 0C i\n",
@@ -223,12 +223,12 @@ fn the_gallery_of_keyboards(rt: HostRuntime) -> Result<(), Fail> {
             "device a 1209:0001\ninterface 0 hid 03/01/01 usbkbd\ndevice b 1209:0001\ninterface 0 hid 03/01/01 usbkbd\nthread hub\n11 kill b.0.in buffer 2000001\n13 down ok\n14 up ok\ngiven\nb.0.in -ENOENT 0 rest -\na.0.in 0 8 again 0 0000040000000000\na.0.in -ESHUTDOWN 0 rest -\ndriver a 0 usbkbd\ndown 04 a\ndriver b 0 usbkbd\n",
         ),
     ];
-    check_reports(&rt, "", "", Status::Done, "", &rows)
+    check_reports(&rt, "", "", Status::Done, "", ROWS)
 }
 
 #[test]
 fn the_gallery_of_devices_as_lists(rt: HostRuntime) -> Result<(), Fail> {
-    let rows = [
+    const ROWS: &[(&str, &str)] = &[
         (
             "# A boot keyboard, as a host finds it: its configuration (34 bytes in all), interface 0 of class 03, subclass 01 and\n# protocol 01, the HID descriptor, and the interrupt IN endpoint 81 with packets of 8 bytes.\nscene 1\ndevice kbd keyboard\nconfig 09022200010100A032 090400000103010100 092111010001223F00 0705810308000A\nthread t\nblock kbd.0.in\nunblock kbd.0.in\nkill kbd.0.ctl\nunlink kbd.0.in\nunlink kbd.0.read0\nunlink kbd.1.in\n",
             "device kbd 1209:0001\ninterface 0 hid 03/01/01 usbkbd\n",
@@ -258,5 +258,5 @@ fn the_gallery_of_devices_as_lists(rt: HostRuntime) -> Result<(), Fail> {
             "device kbd 1209:0001\ninterface 0 hid 03/01/01 usbkbd\n",
         ),
     ];
-    check_lists(&rt, "", "", &rows)
+    check_lists(&rt, "", "", ROWS)
 }

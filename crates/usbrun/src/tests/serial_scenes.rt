@@ -5,7 +5,7 @@ use usb_run::Status;
 
 #[test]
 fn what_ports_send(rt: HostRuntime) -> Result<(), Fail> {
-    let rows = [
+    const ROWS: &[(&str, &str)] = &[
         (
             "# A serial port that sends packets of 8 bytes. Its driver has two reads of 16 bytes in flight, which come back in turn:\n# at a packet that is short or empty, or with 16 bytes. At the nak there is nothing more, until the next serve.\nscene 1\ndevice m acm\nconfig 090243000201008032 090400000102020100 0524001001 0524010001 04240202 0524060001 07058203080010 09040100020A000000 07050102080000 07058102080000\nanswer 81 p:48656C6C6F p:3031323334353637 p:3839414243444546 p:4142434445464748 p: nak p:0A\nthread t\nserve\nserve\n",
             "device m 1209:0001\ninterface 0 comm 02/02/01 cdc_acm\ninterface 1 cdcdata 0A/00/00 cdc_acm\nthread t\ngiven\nm.0.read0 0 5 again 0 48656C6C6F\nm.0.read1 0 16 again 0 30313233343536373839414243444546\nm.0.read0 0 8 again 0 4142434445464748\nm.0.read1 0 1 again 0 0A\nm.0.note -ENOENT 0 rest -\nm.0.read0 -ENOENT 0 rest -\nm.0.read1 -ENOENT 0 rest -\ndriver m 0 cdc_acm\nrx 48656C6C6F\nrx 30313233343536373839414243444546\nrx 4142434445464748\nrx 0A\n",
@@ -23,12 +23,12 @@ fn what_ports_send(rt: HostRuntime) -> Result<(), Fail> {
             "device m 1209:0001\ninterface 0 comm 02/02/01 cdc_acm\ninterface 1 cdcdata 0A/00/00 cdc_acm\nthread t\n10 kill m.0.read0 buffer 2000001\ngiven\nm.0.read0 -EPIPE 8 rest 4142434445464748\nm.0.read1 0 2 again 0 494A\nm.0.read1 -EOVERFLOW 0 again 0 -\nm.0.read1 -EOVERFLOW 8 again 0 4C4C4C4C4C4C4C4C\nm.0.read1 -EPROTO 8 again 0 4E4E4E4E4E4E4E4E\nm.0.read1 0 1 again 0 4F\nm.0.note -ENOENT 0 rest -\nm.0.read1 -ENOENT 0 rest -\ndriver m 0 cdc_acm\nrx 494A\nrx 4F\ndropped 24\n",
         ),
     ];
-    check_reports(&rt, "", "", Status::Done, "", &rows)
+    check_reports(&rt, "", "", Status::Done, "", ROWS)
 }
 
 #[test]
 fn what_ports_are_sent(rt: HostRuntime) -> Result<(), Fail> {
-    let rows = [
+    const ROWS: &[(&str, &str)] = &[
         (
             "# A port is set: 115,200 bits a second, one and a half stop bits, even parity, seven bits (PSTN 1.2, 6.3.11); then DTR\n# and RTS (6.3.12), and breaks (6.3.13). There is one request at a time, and nothing keeps a second one. The device\n# stalls at one try of the control lines. Of all this the coding alone is told.\nscene 1\ndevice m acm\nconfig 090243000201008032 090400000102020100 0524001001 0524010001 04240202 0524060001 07058203080010 09040100020A000000 07050102400000 07058102400000\nanswer 00 ack stall\nthread t\ncoding m 0 115200 1 2 7\ncontrol m 0 03\nserve\ncontrol m 0 03\nserve\ncontrol m 00 03\nserve\nsendbreak m 0 500\nserve\nsendbreak m 0 65535\nserve\ncontrol m 0 00\nserve\n",
             "device m 1209:0001\ninterface 0 comm 02/02/01 cdc_acm\ninterface 1 cdcdata 0A/00/00 cdc_acm\nthread t\n9 coding m 0 0\n10 control m 0 -EBUSY\n12 control m 0 0\n14 control m 0 0\n16 sendbreak m 0 0\n18 sendbreak m 0 0\n20 control m 0 0\ngiven\nm.0.ctl 0 7 rest -\nm.0.ctl -EPIPE 0 rest -\nm.0.ctl 0 0 rest -\nm.0.ctl 0 0 rest -\nm.0.ctl 0 0 rest -\nm.0.ctl 0 0 rest -\nm.0.note -ENOENT 0 rest -\nm.0.read0 -ENOENT 0 rest -\nm.0.read1 -ENOENT 0 rest -\ndriver m 0 cdc_acm\ncoding 00C20100010207\n",
@@ -46,14 +46,14 @@ fn what_ports_are_sent(rt: HostRuntime) -> Result<(), Fail> {
             "device a 1209:0001\ninterface 0 comm 02/02/01 cdc_acm\ninterface 1 cdcdata 0A/00/00 none\ninterface 2 cdcdata 0A/00/00 cdc_acm\ndevice b 1209:0001\ninterface 0 comm 02/02/01 cdc_acm\ninterface 1 cdcdata 0A/00/00 cdc_acm\ndevice k 1209:0001\ninterface 0 hid 03/01/01 usbkbd\nthread t\n15 write a 0 0\n16 write b 0 0\n17 write a 1 -ENODEV\n18 write a 2 -ENODEV\n19 write k 0 -ENODEV\n20 coding b 1 -ENODEV\n21 control a 7 -ENODEV\n22 sendbreak k 0 -ENODEV\n23 led a 0 -ENODEV\n24 kill a.2.read0 -ENODEV\n26 kill b.0.read1 buffer 2000005\ngiven\na.0.write 0 1 rest -\na.0.read0 0 1 again 0 41\nb.0.write 0 2 rest -\nb.0.read0 0 1 again 0 43\nb.0.read1 -ENOENT 0 rest -\na.0.note -ENOENT 0 rest -\na.0.read0 -ENOENT 0 rest -\na.0.read1 -ENOENT 0 rest -\nb.0.note -ENOENT 0 rest -\nb.0.read0 -ENOENT 0 rest -\nk.0.in -ENOENT 0 rest -\ndriver a 0 cdc_acm\ntx 1 0\nrx 41\ndriver b 0 cdc_acm\ntx 2 0\nrx 43\ndriver k 0 usbkbd\nreceived\na 02 1 61\nb 01 2 6262\n",
         ),
     ];
-    check_reports(&rt, "", "", Status::Done, "", &rows)
+    check_reports(&rt, "", "", Status::Done, "", ROWS)
 }
 
 #[test]
 fn what_ports_are_found_to_be(rt: HostRuntime) -> Result<(), Fail> {
-    let rows = [(
+    const ROWS: &[(&str, &str)] = &[(
         "# Which interface brings a port's data. The union of the first device (0524060002) names interface 2, so what 1 could say\n# is not read; the second has no union, and its data interface is the next number. A port has its URBs and its calls by\n# its own interface, and no other has them: not its data interface, and not a keyboard's.\nscene 1\ndevice a acm\nconfig 09024C000301008032 090400000102020100 0524060002 07058203080010 09040100020A000000 07050102080000 07058102080000 09040200020A000000 07050202080000 07058302080000\nanswer 81 p:42\nanswer 83 p:41\ndevice b acm\nconfig 090230000201008032 090400000102020100 07058203080010 09040100020A000000 07050102080000 07058102080000\nanswer 81 p:43\ndevice k keyboard\nconfig 09022200010100A032 090400000103010100 092111010001223F00 0705810308000A\nthread t\nwrite a 0 61\nwrite b 0 6262\nwrite a 1 00\nwrite a 2 00\nwrite k 0 00\ncoding b 1 9600 0 0 8\ncontrol a 7 03\nsendbreak k 0 1\nled a 0 02\nkill a.2.read0\nserve\nkill b.0.read1\n",
         "device a 1209:0001\ninterface 0 comm 02/02/01 cdc_acm\ninterface 1 cdcdata 0A/00/00 none\ninterface 2 cdcdata 0A/00/00 cdc_acm\ndevice b 1209:0001\ninterface 0 comm 02/02/01 cdc_acm\ninterface 1 cdcdata 0A/00/00 cdc_acm\ndevice k 1209:0001\ninterface 0 hid 03/01/01 usbkbd\n",
     )];
-    check_lists(&rt, "", "", &rows)
+    check_lists(&rt, "", "", ROWS)
 }
