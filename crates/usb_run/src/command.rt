@@ -1,6 +1,9 @@
 //! The words of a command line.
-ghost use Rattle.std.specs.Prelude.{◌≡◌, [], ◌∷◌, map, string_bytes};
-ghost use Rattle.usb_run.specs.Words.{command_of};
+ghost use Rattle.std.specs.Prelude.{◌≡◌, ◌≤◌, IsTrue, [], ◌∷◌, map, length, string_bytes};
+ghost use Rattle.std.specs.List.{list_all};
+ghost use Rattle.std.specs.Char.{is_ascii_digit};
+ghost use Rattle.usb_text.specs.Kinds.{digits_value};
+ghost use Rattle.usb_run.specs.Words.{command_of, small_number};
 
 use usb_text::is_text;
 
@@ -11,6 +14,37 @@ pub enum Command {
     Serial,
     /// `list`: what the devices of a scene are found to be.
     List,
+    /// `gen N`: how the run of the scene of a number goes.
+    Gen(u32),
+}
+
+fn are_digits(word: &[u8]) -> bool
+    ensures { result ≡ list_all is_ascii_digit word.now }
+{
+    word.iter().all(|b| b.is_ascii_digit())
+}
+
+// The value of at most ten digits.
+fn digits_value(digits: &[u8]) -> u64
+    requires few { length digits.now ≤ 10 }
+    requires digits { IsTrue (list_all is_ascii_digit digits.now) }
+    ensures { result ≡ digits_value digits.now }
+{
+    let mut value: u64 = 0;
+    for b in digits {
+        value = 10 * value + (*b - b'0') as u64;
+    }
+    value
+}
+
+// One to ten decimal digits, whose value is below 2^32.
+fn small_number(word: &[u8]) -> Option<u32>
+    ensures { result ≡ small_number word.now }
+{
+    if word.is_empty() || word.len() > 10 || !are_digits(word) {
+        return None;
+    }
+    u32::try_from(digits_value(word)).ok()
 }
 
 fn command_named(word: &[u8]) -> Option<Command>
@@ -25,12 +59,23 @@ fn command_named(word: &[u8]) -> Option<Command>
     }
 }
 
+fn command_with(word: &[u8], number: &[u8]) -> Option<Command>
+    ensures { result ≡ command_of (word.now ∷ number.now ∷ []) }
+{
+    if is_text(word, "gen") {
+        small_number(number).map(Command::Gen)
+    } else {
+        None
+    }
+}
+
 /// The command that the words behind the program's name ask for, if they are in the word grammar.
 pub fn read_command(words: &[String]) -> Option<Command>
     ensures { result ≡ command_of (map string_bytes words.now) }
 {
     match words {
         [word] => command_named(word.as_bytes()),
+        [word, number] => command_with(word.as_bytes(), number.as_bytes()),
         _ => None,
     }
 }

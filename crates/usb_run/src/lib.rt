@@ -1,4 +1,4 @@
-//! The program `usbrun` as one call: words, a scene, its run in line order, the report.
+//! The program `usbrun` as one call: words, a scene or a number, the run in line order, the text of it.
 #![tactic(auto)]
 
 mod command;
@@ -10,3 +10,5 @@ mod top;
 pub use input::INPUT_LIMIT;
 pub use status::Status;
 pub use top::{list, serial, usbrun};
+pub use usb_generate::generate;
+pub use usb_summary::summary;

@@ -1,9 +1,11 @@
-//! `usbrun`: reads a scene from standard input, and prints the report of its run or the list of its devices.
+//! `usbrun`: reads a scene from standard input, and prints the report of its run or the list of its devices; or prints how the
+//! scene of a number goes.
 #![tactic(auto)]
 
 use std::alloc::AllocError;
 use std::env;
 use std::env::Env;
+use std::io::ErrorKind;
 use std::process::ExitCode;
 use usb_run::{Status, usbrun};
 use usb_types::{Free, StdSink, StdSource};
@@ -14,10 +16,14 @@ mod tests;
 // The words behind the program's name. Where one is no text there are none, which is no command.
 fn words_of<R: Env + AllocGlobal>(rt: &R) -> Result<Vec<String>, AllocError> {
     let mut words = Vec::new(rt.alloc());
-    if let Ok(args) = env::args(rt) {
-        for word in args.skip(1) {
-            words.push(word)?;
+    match env::args(rt) {
+        Ok(args) => {
+            for word in args.skip(1) {
+                words.push(word)?;
+            }
         }
+        Err(error) if error.kind() == ErrorKind::OutOfMemory => return Err(AllocError),
+        Err(_) => {}
     }
     Ok(words)
 }

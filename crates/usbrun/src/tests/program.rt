@@ -1,4 +1,4 @@
-//! The program's call over memory: small scenes, ends that fail, words that are refused, the texts of faults.
+//! The program's call over memory: small scenes, the lines of numbers, ends that fail, words that are refused, the texts of faults.
 use crate::tests::calling::{Ends, GOOD, check_reports, ended, joined};
 use std::process::Abort;
 use std::sync::Wait;
@@ -14,7 +14,7 @@ const WHOLE: &str = "thread t\n7 submit a 0\ngiven\na 0 8 rest 0102030405060708\
 
 #[test]
 fn a_scene_prints_its_calls_and_what_was_given_back(rt: HostRuntime) -> Result<(), Fail> {
-    let rows = [
+    const ROWS: &[(&str, &str)] = &[
         ("submit a\nserve\n", WHOLE),
         (
             "submit a\nsubmit a\nserve\n",
@@ -30,12 +30,12 @@ fn a_scene_prints_its_calls_and_what_was_given_back(rt: HostRuntime) -> Result<(
         ),
         ("serve # nothing is queued", "thread t\n"),
     ];
-    check_reports(&rt, HEAD, "", Status::Done, "", &rows)
+    check_reports(&rt, HEAD, "", Status::Done, "", ROWS)
 }
 
 #[test]
 fn a_scene_may_have_less_or_more_than_the_first(rt: HostRuntime) -> Result<(), Fail> {
-    let rows = [
+    const ROWS: &[(&str, &str)] = &[
         ("scene 1", ""),
         ("scene 1\n", ""),
         (
@@ -51,14 +51,14 @@ fn a_scene_may_have_less_or_more_than_the_first(rt: HostRuntime) -> Result<(), F
             "thread hub\n6 submit a 0\ngiven\na -ENOENT 0 rest -\n",
         ),
     ];
-    check_reports(&rt, "", "", Status::Done, "", &rows)
+    check_reports(&rt, "", "", Status::Done, "", ROWS)
 }
 
 #[test]
 fn replies_move_a_transfer(rt: HostRuntime) -> Result<(), Fail> {
     let front = "scene 1\ndevice d raw\nep 8a bulk 4 0\nanswer 8A ";
     let back = "\nthread t\nsubmit a\nserve\n";
-    let rows = [
+    const ROWS: &[(&str, &str)] = &[
         (
             "p:01020304 p:0506\nurb a d 8A len 8",
             "given\na 0 6 rest 010203040506\n",
@@ -104,7 +104,7 @@ fn replies_move_a_transfer(rt: HostRuntime) -> Result<(), Fail> {
         back,
         Status::Done,
         "thread t\n7 submit a 0\n",
-        &rows,
+        ROWS,
     )
 }
 
@@ -125,72 +125,44 @@ fn check_ends<R: Abort + AllocGlobal + Threads + Wait + Sync>(
 
 #[test]
 fn each_failing_read_and_write_is_told(rt: HostRuntime) -> Result<(), Fail> {
-    check_ends(
-        &rt,
-        Ends {
-            reads: &[1],
-            ..GOOD
-        },
-        Status::ReadFault,
-        "",
-    )?;
-    check_ends(
-        &rt,
-        Ends {
-            reads: &[2],
-            ..GOOD
-        },
-        Status::ReadFault,
-        "",
-    )?;
-    check_ends(
-        &rt,
-        Ends {
-            reads: &[3],
-            writes: &[2],
-            ..GOOD
-        },
-        Status::Done,
-        WHOLE,
-    )?;
-    check_ends(
-        &rt,
-        Ends {
-            writes: &[1],
-            ..GOOD
-        },
-        Status::WriteFault,
-        "",
-    )?;
-    check_ends(
-        &rt,
-        Ends {
-            writes: &[2],
-            room: 10,
-            ..GOOD
-        },
-        Status::WriteFault,
-        "thread t\n7",
-    )?;
-    check_ends(
-        &rt,
-        Ends { room: 10, ..GOOD },
-        Status::WriteFault,
-        "thread t\n7",
-    )
+    const ROWS: &[(&[u32], &[u32], u32, Status, &str)] = &[
+        (&[1], &[], 4096, Status::ReadFault, ""),
+        (&[2], &[], 4096, Status::ReadFault, ""),
+        (&[3], &[2], 4096, Status::Done, WHOLE),
+        (&[], &[1], 4096, Status::WriteFault, ""),
+        (&[], &[2], 10, Status::WriteFault, "thread t\n7"),
+        (&[], &[], 10, Status::WriteFault, "thread t\n7"),
+    ];
+    for (reads, writes, room, status, written) in ROWS {
+        let ends = Ends {
+            reads,
+            writes,
+            room: *room,
+        };
+        check_ends(&rt, ends, *status, written)?;
+    }
+    Ok(())
 }
 
 #[test]
 fn other_words_are_refused(rt: HostRuntime) -> Result<(), Fail> {
     let alloc = rt.alloc();
-    let rows: [&[&str]; 5] = [
+    const ROWS: &[&[&str]] = &[
         &[],
         &["serial", "now"],
         &["Serial"],
         &["run"],
+        &["list", "1"],
+        &["gen"],
+        &["gen", "x"],
+        &["gen", ""],
+        &["gen", "+1"],
+        &["gen", "1", "2"],
         &["gen", "4294967296"],
+        &["gen", "12345678901"],
+        &["Gen", "1"],
     ];
-    for words in rows {
+    for words in ROWS {
         let (status, text) = ended(&rt, alloc, words, joined(alloc, HEAD, "", "")?, GOOD)?;
         assert_eq!(rt; status, Status::BadWords);
         assert_eq!(rt; text.len(), 0);
@@ -198,10 +170,47 @@ fn other_words_are_refused(rt: HostRuntime) -> Result<(), Fail> {
     Ok(())
 }
 
+// The line of a number: the status, and what is written. The input is no scene and is not read.
+fn check_number<R: Abort + AllocGlobal + Threads + Wait + Sync>(
+    rt: &R,
+    number: &str,
+    ends: Ends<'_>,
+    status: Status,
+    written: &str,
+) -> Result<(), Fail> {
+    let alloc = rt.alloc();
+    let input = joined(alloc, "no scene\n", "", "")?;
+    let (got, text) = ended(rt, alloc, &["gen", number], input, ends)?;
+    assert_eq!(rt; got, status, "{number}");
+    assert_eq!(rt; text.as_slice(), written.as_bytes(), "{number}");
+    Ok(())
+}
+
+// The numbers are those of a count by other means.
+#[test]
+fn a_number_has_its_line(rt: HostRuntime) -> Result<(), Fail> {
+    let first = "gen 1 calls 2000 accepted 495 refused 522 given 495 bytes 5419\n";
+    let last = "gen 4294967295 calls 2000 accepted 475 refused 501 given 475 bytes 5546\n";
+    let silent = Ends {
+        reads: &[1],
+        ..GOOD
+    };
+    check_number(&rt, "1", silent, Status::Done, first)?;
+    check_number(&rt, "1", GOOD, Status::Done, first)?;
+    check_number(&rt, "0000000001", GOOD, Status::Done, first)?;
+    check_number(&rt, "4294967295", GOOD, Status::Done, last)
+}
+
+#[test]
+fn a_failing_write_of_a_line_is_told(rt: HostRuntime) -> Result<(), Fail> {
+    let short = Ends { room: 11, ..GOOD };
+    check_number(&rt, "1", short, Status::WriteFault, "gen 1 calls")
+}
+
 #[test]
 fn each_fault_has_its_text(rt: HostRuntime) -> Result<(), Fail> {
     let alloc = rt.alloc();
-    let rows = [
+    const ROWS: &[(Status, &str)] = &[
         (Status::Done, ""),
         (Status::ReadFault, "usbrun: read fault"),
         (Status::WriteFault, "usbrun: write fault"),
@@ -216,9 +225,9 @@ fn each_fault_has_its_text(rt: HostRuntime) -> Result<(), Fail> {
         (Status::TooLong, "usbrun: too long"),
         (Status::Memory, "usbrun: no memory"),
     ];
-    for (status, text) in rows {
+    for (status, text) in ROWS {
         let printed = format!(in alloc; "{status}")?;
-        assert_eq!(rt; printed.as_str(), text);
+        assert_eq!(rt; printed.as_str(), *text);
     }
     Ok(())
 }

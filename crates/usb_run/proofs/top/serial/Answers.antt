@@ -20,7 +20,7 @@ returns c =
     let made = c.items-3.ensures ∙ o.made in let given = c.items-4.ensures ∙ o.given in let told = c.items-5.ensures ∙ o.told in let ends = c.items-6.ensures ∙ o.ends in
     record {
       text = text_of s c.items-2.result.now c.bindings.result.now c.items-3.result.now c.items-4.result.now c.items-5.result.now c.items-6.result.now;
-      printed = record {
+      reported = record {
         far = o.far;
         line = o.line;
         run = line_is_run s c.requires o.far o.line;
