@@ -1,7 +1,7 @@
 use usb_types::{Buf, Code};
 
 /// What happened at a serial port.
-#[derive(Debug, Drop)]
+#[derive(Drop)]
 pub enum Event {
     /// Bytes came in, at least one.
     Rx { bytes: Buf },

@@ -7,7 +7,7 @@ use usb_types::{Role, UrbId};
 
 /// A driver that has an interface, and for ACM the data interface too. The URBs stand in this order: of a keyboard
 /// `In`, `Ctl`; of ACM `Note`, `Read0`, `Read1`, `Write`, `Ctl`; of a printer `Write`, `Ctl`.
-#[derive(Clone, Copy, Debug, PartialEq, Eq)]
+#[derive(Clone, Copy)]
 pub struct Bound {
     pub driver: Driver,
     pub device: u32,

@@ -2,7 +2,7 @@
 use crate::row::Driver;
 
 /// Why a driver does not get the interface that it claims.
-#[derive(Clone, Copy, Debug, PartialEq, Eq)]
+#[derive(Clone, Copy)]
 pub enum ClaimFault {
     /// This driver has it.
     Busy(Driver),
@@ -11,7 +11,7 @@ pub enum ClaimFault {
 }
 
 /// Why a probe does not bind an interface: the first of these that holds.
-#[derive(Clone, Copy, Debug, PartialEq, Eq)]
+#[derive(Clone, Copy)]
 pub enum ProbeFault {
     /// This driver has it.
     Busy(Driver),

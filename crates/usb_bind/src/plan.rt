@@ -2,7 +2,7 @@
 use crate::row::Driver;
 
 /// The driver, its other interface, and the homes of its URBs in order.
-#[derive(Clone, Copy, Debug, PartialEq, Eq)]
+#[derive(Clone, Copy)]
 pub(crate) struct Plan {
     pub(crate) driver: Driver,
     pub(crate) other: Option<u8>,

@@ -5,7 +5,7 @@ ghost use Rattle.usb_bind.specs.Profile.{interface_row, profile_rows};
 use crate::flags::{INT_CLASS, INT_PROTOCOL, INT_SUBCLASS};
 
 /// A class driver: boot keyboards, CDC ACM modems, printers.
-#[derive(Clone, Copy, Debug, PartialEq, Eq)]
+#[derive(Clone, Copy)]
 pub enum Driver {
     Keyboard,
     Acm,
@@ -13,7 +13,7 @@ pub enum Driver {
 }
 
 /// A row of a driver's table. Only the fields whose flags are set count.
-#[derive(Clone, Copy, Debug, PartialEq, Eq)]
+#[derive(Clone, Copy)]
 pub struct IdRow {
     /// What it asks for, of `flags`.
     pub flags: u16,

@@ -24,7 +24,7 @@ pub enum Core {
 }
 
 /// What a driver tells of its device.
-#[derive(Debug, Drop)]
+#[derive(Drop)]
 pub enum Told {
     Keys(List<Event>),
     /// What happened at a serial port, and how many bytes came with reads that failed.

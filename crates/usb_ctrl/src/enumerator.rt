@@ -14,7 +14,7 @@ use usb_desc::{ConfigTree, DeviceDesc};
 use usb_types::Code;
 
 /// A device that is enumerated: its address, what it is, and the configuration that it was given.
-#[derive(Debug, Drop)]
+#[derive(Drop)]
 pub struct Attached {
     pub address: u8,
     pub device: DeviceDesc,
@@ -22,7 +22,7 @@ pub struct Attached {
 }
 
 /// An enumeration. It stands for the answers to its requests so far.
-#[derive(Debug, Drop)]
+#[derive(Drop)]
 pub struct Enumerator {
     alloc: Global,
     address: u8,

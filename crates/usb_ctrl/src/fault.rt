@@ -6,7 +6,7 @@ use usb_desc::DescFault;
 use usb_types::Errno;
 
 /// Why an enumeration does not go on.
-#[derive(Clone, Copy, Debug, PartialEq, Eq)]
+#[derive(Clone, Copy, Debug, PartialEq)]
 pub enum EnumFault {
     /// The request failed.
     Status { request: u8, errno: Errno },

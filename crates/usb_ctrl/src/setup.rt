@@ -3,7 +3,7 @@ ghost use Rattle.std.specs.Prelude.{◌≡◌};
 ghost use Rattle.usb_ctrl.specs.Setup.{setup_of, bytes_of};
 
 /// What a control transfer asks of a device.
-#[derive(Clone, Copy, Debug, PartialEq, Eq)]
+#[derive(Clone, Copy, Debug, PartialEq)]
 pub struct Setup {
     /// bmRequestType: bit 7 is set where the data come in.
     pub kind: u8,

@@ -18,7 +18,7 @@ const DEVICE: u16 = 0x0100;
 const CONFIGURATION: u16 = 0x0200;
 
 /// What is known of a device so far.
-#[derive(Debug, Drop)]
+#[derive(Drop)]
 pub enum Stage {
     Fresh,
     /// The first eight bytes of its descriptor.

@@ -8,7 +8,7 @@ use crate::kind::{DEVICE, DEVICE_LEN};
 use crate::numbers::{high, low, word};
 
 /// A device. Versions and releases are in binary decimal, as they stand.
-#[derive(Clone, Copy, Debug, PartialEq, Eq)]
+#[derive(Clone, Copy, Debug, PartialEq)]
 pub struct DeviceDesc {
     pub usb: u16,
     pub class: u8,

@@ -1,7 +1,7 @@
 //! What may be wrong with descriptors.
 
 /// The first fault from left to right, most with the place of the descriptor that has it, or want of memory.
-#[derive(Clone, Copy, Debug, PartialEq, Eq)]
+#[derive(Clone, Copy, Debug, PartialEq)]
 pub enum DescFault {
     /// Fewer bytes are left than a length and a type, or than the length says. In the first descriptor it tells
     /// the number of bytes.

@@ -3,7 +3,7 @@
 use usb_types::{Buf, List};
 
 /// A configuration.
-#[derive(Debug, Drop)]
+#[derive(Drop)]
 pub struct ConfigTree {
     /// How many interfaces it says that it has.
     pub said: u8,
@@ -18,7 +18,7 @@ pub struct ConfigTree {
 }
 
 /// An alternate setting of an interface.
-#[derive(Debug, Drop)]
+#[derive(Drop)]
 pub struct Alt {
     pub number: u8,
     pub setting: u8,
@@ -35,7 +35,7 @@ pub struct Alt {
 }
 
 /// An endpoint.
-#[derive(Debug, Drop)]
+#[derive(Drop)]
 pub struct End {
     pub address: u8,
     pub attributes: u8,

@@ -1,5 +1,5 @@
 /// What happened at a keyboard.
-#[derive(Clone, Copy, Debug, PartialEq, Eq)]
+#[derive(Clone, Copy)]
 pub enum Event {
     /// A key went down: its usage (HID usage tables, page 07).
     Down { code: u8 },

@@ -4,7 +4,7 @@ use usb_scene::Target;
 use usb_types::{Buf, Code};
 
 /// What a call of a scene does. URBs are named by their numbers.
-#[derive(Clone, Copy, Debug, PartialEq, Eq)]
+#[derive(Clone, Copy)]
 pub enum Deed {
     Submit(u32),
     Unlink(u32),
@@ -24,7 +24,7 @@ pub enum Deed {
 }
 
 /// What a call answers.
-#[derive(Clone, Copy, Debug, PartialEq, Eq)]
+#[derive(Clone, Copy)]
 pub enum CallAnswer {
     Nothing,
     Done,
@@ -34,7 +34,7 @@ pub enum CallAnswer {
 }
 
 /// A call that was made, with its answer.
-#[derive(Clone, Copy, Debug, PartialEq, Eq)]
+#[derive(Clone, Copy)]
 pub struct CallMade {
     /// The thread's number in the scene.
     pub thread: u32,
@@ -47,7 +47,7 @@ pub struct CallMade {
 }
 
 /// What a completion handler did with the transfer.
-#[derive(Clone, Copy, Debug, PartialEq, Eq)]
+#[derive(Clone, Copy)]
 pub enum Outcome {
     Rest,
     /// It submitted the transfer again, with this answer.
@@ -57,7 +57,7 @@ pub enum Outcome {
 }
 
 /// What a Give gave back, as the report tells it.
-#[derive(Debug, Drop)]
+#[derive(Drop)]
 pub struct Given {
     /// The URB's number.
     pub urb: u32,

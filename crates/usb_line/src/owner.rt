@@ -9,7 +9,7 @@ use usb_class::{kept_size, role_of};
 use usb_types::{Role, UrbId};
 
 /// The driver that has an URB.
-#[derive(Clone, Copy, Debug, PartialEq, Eq)]
+#[derive(Clone, Copy)]
 pub struct Owner {
     /// The place of its binding among all.
     pub place: u32,

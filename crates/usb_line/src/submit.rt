@@ -31,7 +31,7 @@ use usb_scene::{Call, SceneUrb, Target};
 use usb_types::{Buf, Code, Errno, Memory, UrbId};
 
 /// What the scene says of an URB: of a driver's nothing.
-#[derive(Clone, Copy, Debug, PartialEq, Eq)]
+#[derive(Clone, Copy)]
 pub struct Said {
     /// How many zero bytes a submit without data carries.
     pub len: u32,

@@ -8,7 +8,7 @@ pub const SERVER: u32 = 0;
 pub const HUB: u32 = 1;
 
 /// One line of a history: the pass, its event, the answer, and of a Submit or a Rest the whole transfer.
-#[derive(Debug, Drop)]
+#[derive(Drop)]
 pub struct Entry {
     pub pass: u32,
     pub event: Event,

@@ -1,7 +1,7 @@
 use usb_types::{Code, Flag, UrbId, Why};
 
 /// What happens to an URB, or to an endpoint's line, in one moment. A pass makes it.
-#[derive(Clone, Copy, Debug, PartialEq, Eq)]
+#[derive(Clone, Copy)]
 pub enum Event {
     /// Asks the gate of the URB for a transfer with this number.
     Submit { urb: UrbId, number: u64 },
@@ -34,7 +34,7 @@ pub enum Event {
 }
 
 /// What an event answers.
-#[derive(Clone, Copy, Debug, PartialEq, Eq)]
+#[derive(Clone, Copy, Debug, PartialEq)]
 pub enum Answer {
     Nothing,
     /// Of Submit, Mark and Give.

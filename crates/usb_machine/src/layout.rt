@@ -1,7 +1,7 @@
 use usb_types::List;
 
 /// The transfer type of an endpoint (USB 2.0 §9.6.6, bits 0 and 1 of `bmAttributes`).
-#[derive(Clone, Copy, Debug, PartialEq, Eq)]
+#[derive(Clone, Copy)]
 pub enum EndKind {
     Control,
     Bulk,
@@ -10,7 +10,7 @@ pub enum EndKind {
 }
 
 /// What the host knows of an endpoint.
-#[derive(Clone, Copy, Debug, PartialEq, Eq)]
+#[derive(Clone, Copy)]
 pub struct Shape {
     /// The device, by its number in the host.
     pub device: u32,
@@ -23,7 +23,7 @@ pub struct Shape {
 }
 
 /// Each URB's home endpoint, where it has one, and each endpoint's shape.
-#[derive(Debug, Drop)]
+#[derive(Drop)]
 pub struct Layout {
     pub homes: List<Option<u32>>,
     pub shapes: List<Shape>,

@@ -9,7 +9,7 @@ use crate::state::{Flags, no_flags};
 use usb_types::Code;
 
 /// What a pass holds against an URB: its rejects, its flags, and whether it keeps the URB quiet.
-#[derive(Clone, Copy, Debug, PartialEq, Eq)]
+#[derive(Clone, Copy)]
 pub(crate) struct Held {
     pub(crate) rejects: u8,
     pub(crate) flags: Flags,
@@ -66,7 +66,7 @@ fn held_next(held: Held, event: Event) -> Held
 }
 
 /// Whether a pass owes the Link of an URB, and what it holds against the URB.
-#[derive(Clone, Copy, Debug, PartialEq, Eq)]
+#[derive(Clone, Copy)]
 pub(crate) struct PassRow {
     pub(crate) owes: bool,
     pub(crate) held: Held,

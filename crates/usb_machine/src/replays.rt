@@ -14,7 +14,7 @@ use std::alloc::Global;
 use usb_types::{List, Memory};
 
 /// An event, and the pass that makes it.
-#[derive(Clone, Copy, Debug, PartialEq, Eq)]
+#[derive(Clone, Copy)]
 pub struct Step {
     pub pass: u32,
     pub event: Event,

@@ -4,7 +4,7 @@ ghost use Rattle.usb_machine.specs.State.{opening, no_flags as none};
 use usb_types::{Code, Why};
 
 /// What is settled of a queued URB's status.
-#[derive(Clone, Copy, Debug, PartialEq, Eq)]
+#[derive(Clone, Copy)]
 pub enum Mark {
     Clear,
     Unlinked(Why),
@@ -12,7 +12,7 @@ pub enum Mark {
 }
 
 /// The flags that stand on an URB.
-#[derive(Clone, Copy, Debug, PartialEq, Eq)]
+#[derive(Clone, Copy)]
 pub struct Flags {
     pub gone: bool,
     pub off: bool,
@@ -21,7 +21,7 @@ pub struct Flags {
 
 /// The state of an URB: whether it is queued, its mark, its rejects, its flags, how many completion handlers of it
 /// run, and the number of the transfer that rests with it.
-#[derive(Clone, Copy, Debug, PartialEq, Eq)]
+#[derive(Clone, Copy)]
 pub struct UrbState {
     pub queued: bool,
     pub mark: Mark,

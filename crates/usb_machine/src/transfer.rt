@@ -1,7 +1,7 @@
 use usb_types::Buf;
 
 /// A buffer on its way. Its window is `buf[from .. from + len]`, of which the first `actual` bytes were moved.
-#[derive(Debug, Drop)]
+#[derive(Drop)]
 pub struct Transfer {
     /// The setup packet of a control transfer (USB 2.0 §9.3).
     pub setup: Option<[u8; 8]>,

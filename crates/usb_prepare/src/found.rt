@@ -5,7 +5,7 @@ use usb_ctrl::EnumFault;
 use usb_types::List;
 
 /// How the probe of an interface went.
-#[derive(Clone, Copy, Debug, PartialEq, Eq)]
+#[derive(Clone, Copy)]
 pub enum Probe {
     Bound,
     Refused(ProbeFault),
@@ -14,7 +14,7 @@ pub enum Probe {
 }
 
 /// Who has an interface, or why nobody has.
-#[derive(Clone, Copy, Debug, PartialEq, Eq)]
+#[derive(Clone, Copy)]
 pub enum Taken {
     By(Driver),
     /// Too few URBs were spare.
@@ -28,7 +28,7 @@ pub enum Taken {
 }
 
 /// An interface, as its setting 0 tells it (USB 2.0 §9.6.5).
-#[derive(Clone, Copy, Debug, PartialEq, Eq)]
+#[derive(Clone, Copy)]
 pub struct Face {
     pub number: u8,
     pub class: u8,
@@ -38,7 +38,7 @@ pub struct Face {
 }
 
 /// What a device of the scene is found to be.
-#[derive(Debug, Drop)]
+#[derive(Drop)]
 pub enum Found {
     /// A raw device, which is not enumerated.
     Raw,

@@ -1,7 +1,7 @@
 use usb_types::{Buf, Code};
 
 /// What happened at a printer.
-#[derive(Debug, Drop)]
+#[derive(Drop)]
 pub enum Event {
     /// The printer's device id, as it is printed.
     Id {

@@ -8,7 +8,7 @@ ghost use Rattle.usb_run.specs.Words.{command_of, small_number};
 use usb_text::is_text;
 
 /// What the program is asked for.
-#[derive(Clone, Copy, Debug, PartialEq, Eq)]
+#[derive(Clone, Copy)]
 pub enum Command {
     /// `serial`: the run of a scene in line order.
     Serial,

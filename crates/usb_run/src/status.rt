@@ -7,7 +7,7 @@ use std::fmt::Display;
 use usb_scene::Cause;
 
 /// How the program ended.
-#[derive(Clone, Copy, Debug, PartialEq, Eq)]
+#[derive(Clone, Copy, Debug, PartialEq)]
 pub enum Status {
     /// The input was read to its end, and the whole text was written.
     Done,

@@ -6,7 +6,7 @@ use std::fmt;
 use std::fmt::Display;
 
 /// A cause against a line. Of several, the first in this order is the one that is told.
-#[derive(Clone, Copy, Debug, PartialEq, Eq)]
+#[derive(Clone, Copy, Debug, PartialEq)]
 pub enum Cause {
     /// A byte that may not stand in a line.
     Byte,

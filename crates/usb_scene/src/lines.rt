@@ -12,7 +12,7 @@ use usb_text::{are_plain, copy, next_line, next_word, without_return};
 use usb_types::{Buf, List, Memory};
 
 /// The words of a line, with its number from 1.
-#[derive(Debug, Drop)]
+#[derive(Drop)]
 pub struct Line {
     pub number: u32,
     pub words: List<Buf>,

@@ -16,14 +16,14 @@ use usb_statement::{Statement, read_keyword, read_statement};
 use usb_text::{are_plain, is_text, next_line, next_word, without_return};
 
 /// Why a line was not read.
-#[derive(Clone, Copy, Debug, PartialEq, Eq)]
+#[derive(Clone, Copy)]
 pub enum LineFault {
     Bad(Cause),
     Memory,
 }
 
 /// Why a scene was not read: its first bad line with the first cause against it, or want of memory.
-#[derive(Clone, Copy, Debug, PartialEq, Eq)]
+#[derive(Clone, Copy, Debug)]
 pub enum SceneFault {
     Bad { line: u32, cause: Cause },
     Memory,

@@ -3,7 +3,7 @@ use usb_types::{Buf, List, Role};
 use usb_xfer::DeviceScript;
 
 /// A scene, or as much of one as was read. Numbers of devices, URBs, anchors and threads are places in these lists.
-#[derive(Debug, Drop)]
+#[derive(Drop)]
 pub struct Scene {
     pub version: u32,
     pub devices: List<SceneDevice>,
@@ -14,14 +14,14 @@ pub struct Scene {
 }
 
 /// A device with its script.
-#[derive(Debug, Drop)]
+#[derive(Drop)]
 pub struct SceneDevice {
     pub name: Buf,
     pub script: DeviceScript,
 }
 
 /// An URB of a raw device's endpoint.
-#[derive(Debug, Drop)]
+#[derive(Drop)]
 pub struct SceneUrb {
     pub name: Buf,
     /// The device's number.
@@ -36,14 +36,14 @@ pub struct SceneUrb {
 }
 
 /// A thread with its script.
-#[derive(Debug, Drop)]
+#[derive(Drop)]
 pub struct SceneThread {
     pub name: Buf,
     pub calls: List<Call>,
 }
 
 /// A call on a line of the scene.
-#[derive(Debug, Drop)]
+#[derive(Drop)]
 pub struct Call {
     pub line: u32,
     /// The call's number in the table of calls.

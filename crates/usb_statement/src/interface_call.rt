@@ -11,7 +11,7 @@ use usb_text::{byte, next_word, number};
 use usb_types::{Buf, Memory};
 
 /// A call on an interface that a driver has, with what it carries.
-#[derive(Debug, Drop)]
+#[derive(Drop)]
 pub enum InterfaceCall {
     /// The lights of a keyboard, by the bits of a byte (HID 1.11, appendix B.1).
     Led {

@@ -6,7 +6,7 @@ ghost use Rattle.usb_statement.specs.Printed.{urb_call_text, bare_call_text, int
 use usb_text::is_text;
 
 /// Bytes that a line gives its device: its device descriptor, its configuration, or a printer's id.
-#[derive(Clone, Copy, Debug, PartialEq, Eq)]
+#[derive(Clone, Copy)]
 pub enum DeviceBytes {
     Desc,
     Config,
@@ -14,7 +14,7 @@ pub enum DeviceBytes {
 }
 
 /// A call on an URB alone.
-#[derive(Clone, Copy, Debug, PartialEq, Eq)]
+#[derive(Clone, Copy)]
 pub enum UrbCall {
     Unlink,
     Kill,
@@ -41,7 +41,7 @@ impl UrbCall {
 }
 
 /// A call on nothing.
-#[derive(Clone, Copy, Debug, PartialEq, Eq)]
+#[derive(Clone, Copy)]
 pub enum BareCall {
     Serve,
     Down,
@@ -62,7 +62,7 @@ impl BareCall {
 }
 
 /// The word of a call on an interface that a driver has.
-#[derive(Clone, Copy, Debug, PartialEq, Eq)]
+#[derive(Clone, Copy)]
 pub enum InterfaceWord {
     Led,
     Write,
@@ -93,7 +93,7 @@ impl InterfaceWord {
 }
 
 /// What the first word of a line may be.
-#[derive(Clone, Copy, Debug, PartialEq, Eq)]
+#[derive(Clone, Copy)]
 pub enum Keyword {
     Device,
     Ep,

@@ -8,7 +8,7 @@ use usb_text::{is_text, next_word, number};
 use usb_types::{List, Memory};
 
 /// An option of an URB, as it is written.
-#[derive(Clone, Copy, Debug, PartialEq, Eq)]
+#[derive(Clone, Copy, Debug, PartialEq)]
 pub enum UrbOption {
     Len(u32),
     Again(u32),

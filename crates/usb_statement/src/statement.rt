@@ -19,7 +19,7 @@ use usb_types::{Buf, List, Memory};
 use usb_xfer::{Item, Kind};
 
 /// What a line says, by itself.
-#[derive(Debug, Drop)]
+#[derive(Drop)]
 pub enum Statement {
     Device {
         name: Buf,

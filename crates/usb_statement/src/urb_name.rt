@@ -8,7 +8,7 @@ use usb_text::{copy, cut, is_name, is_text, number};
 use usb_types::{Buf, Memory, Role};
 
 /// How a line names an URB: by its own name, or as one of a driver's.
-#[derive(Debug, Drop)]
+#[derive(Drop)]
 pub enum UrbName {
     Scripted(Buf),
     Driver {

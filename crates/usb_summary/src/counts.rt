@@ -12,7 +12,7 @@ use usb_types::Code;
 const SUBMIT: u32 = 1;
 
 /// The numbers of a summary.
-#[derive(Clone, Copy, Debug, PartialEq, Eq)]
+#[derive(Clone, Copy)]
 pub struct Counts {
     pub accepted: u64,
     pub refused: u64,

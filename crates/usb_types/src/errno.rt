@@ -2,7 +2,7 @@ ghost use Rattle.std.specs.Prelude.{◌≡◌};
 ghost use Rattle.usb_types.specs.Codes.{errno_number, errno_name, code_text};
 
 /// A reason for a refusal, or the status of a transfer that failed. The names are Linux's.
-#[derive(Clone, Copy, Debug, PartialEq, Eq)]
+#[derive(Clone, Copy, Debug, PartialEq)]
 pub enum Errno {
     EPERM,
     ENOENT,
@@ -79,7 +79,7 @@ impl Errno {
 }
 
 /// The answer of a call, or the status of a transfer: zero, or a fault.
-#[derive(Clone, Copy, Debug, PartialEq, Eq)]
+#[derive(Clone, Copy, Debug, PartialEq)]
 pub enum Code {
     Zero,
     Fault(Errno),

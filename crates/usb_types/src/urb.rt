@@ -4,11 +4,11 @@ ghost use Rattle.usb_types.specs.Codes.{errno_of};
 use crate::errno::Errno;
 
 /// An URB, by its number in the host's pool.
-#[derive(Clone, Copy, Debug, PartialEq, Eq)]
+#[derive(Clone, Copy, Debug, PartialEq)]
 pub struct UrbId(pub u32);
 
 /// Why an URB is unlinked.
-#[derive(Clone, Copy, Debug, PartialEq, Eq)]
+#[derive(Clone, Copy)]
 pub enum Why {
     Unlink,
     Kill,
@@ -29,7 +29,7 @@ impl Why {
 }
 
 /// A standing reason to refuse submits of an URB: its device is gone, its interface was unbound, or the host is down.
-#[derive(Clone, Copy, Debug, PartialEq, Eq)]
+#[derive(Clone, Copy)]
 pub enum Flag {
     Gone,
     Off,
@@ -49,7 +49,7 @@ pub enum Role {
 
 /// What becomes of a driver's transfer when it has come back: it rests, it is submitted again with this window, or it
 /// rests and the driver asks a question of its own.
-#[derive(Clone, Copy, Debug, PartialEq, Eq)]
+#[derive(Clone, Copy, Debug, PartialEq)]
 pub enum Action {
     Rest,
     Again {

@@ -13,7 +13,7 @@ use usb_machine::{Shape, Transfer};
 use usb_types::{Code, Errno};
 
 /// How far a transfer is after one packet: it goes on, it waits for the device, or it has ended with a code.
-#[derive(Clone, Copy, Debug, PartialEq, Eq)]
+#[derive(Clone, Copy, Debug, PartialEq)]
 pub enum Step {
     More,
     Waiting,

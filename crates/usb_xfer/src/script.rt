@@ -3,7 +3,7 @@ use usb_machine::Shape;
 use usb_types::{Buf, List};
 
 /// What a device is made to be: one that only has endpoints, or one of a class with its control requests.
-#[derive(Clone, Copy, Debug, PartialEq, Eq)]
+#[derive(Clone, Copy, Debug, PartialEq)]
 pub enum Kind {
     Raw,
     Keyboard,
@@ -12,7 +12,7 @@ pub enum Kind {
 }
 
 /// A device with what it answers.
-#[derive(Debug, Drop)]
+#[derive(Drop)]
 pub struct DeviceScript {
     pub kind: Kind,
     /// A raw device's endpoints beside 00.
@@ -30,14 +30,14 @@ pub struct DeviceScript {
 }
 
 /// What the device answers at an address, after what earlier lines of this address say.
-#[derive(Debug, Drop)]
+#[derive(Drop)]
 pub struct Answers {
     pub address: u8,
     pub items: List<Item>,
 }
 
 /// What is answered to so many calls in a row.
-#[derive(Debug, Drop)]
+#[derive(Drop)]
 pub struct Item {
     pub times: u32,
     pub what: What,
@@ -45,7 +45,7 @@ pub struct Item {
 
 /// What a device replies to one question of the host: a handshake (USB 2.0 §8.4.5), or a packet with its bytes.
 /// `Error` stands for no reply, or a damaged one.
-#[derive(Debug, Drop)]
+#[derive(Drop)]
 pub enum What {
     Ack,
     Nak,

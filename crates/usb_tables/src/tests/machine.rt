@@ -81,8 +81,8 @@ fn check_answers<R: Abort + AllocGlobal>(rt: &R, rows: &[Row]) -> Result<(), Fai
     let layout = layout(alloc)?;
     let said = replay(alloc, &layout, 2, &steps)?.ok_or("a step may not come")?;
     assert_eq!(rt; said.items().len(), rows.len());
-    for (said, (_, event, answer)) in said.items().iter().zip(rows) {
-        assert_eq!(rt; *said, *answer, "{event:?}");
+    for (at, (said, (_, _, answer))) in said.items().iter().zip(rows).enumerate() {
+        assert_eq!(rt; *said, *answer, "step {at}");
     }
     Ok(())
 }
