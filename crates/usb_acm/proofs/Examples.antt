@@ -86,7 +86,7 @@ what_is_left : unfinished (state3 ++ 0xA1 ∷ 0x20 ∷ []) ≡ 0xA1 ∷ 0x20 ∷
 unfolding unfinished behind_within
 what_is_left = refl
 
--- other requests, a device's own reply and an empty read tell nothing; a write tells what it moved
+-- other requests, a device's own reply and an empty read report nothing; a write reports what it moved
 what_tells_nothing : serial_events (asked (0x21 ∷ 0x22 ∷ 3 ∷ 0 ∷ 0 ∷ 0 ∷ 0 ∷ 0 ∷ []) [] ∷ asked (0xA1 ∷ 0x20 ∷ 0 ∷ 0 ∷ 0 ∷ 0 ∷ 7 ∷ 0 ∷ []) (1 ∷ []) ∷ read0 [] ∷ [])
     ≡ []
 unfolding serial_events stream_of notes_more notes notes_within

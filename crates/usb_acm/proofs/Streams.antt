@@ -1,4 +1,4 @@
--- Notifications of a stream: one more, and what comes behind.
+-- Notifications of a stream: one more, and what comes after it.
 use Rattle.std.proofs.Common.{◌≡◌, ℕ, zero, suc, ◌+◌, ◌-◌, ◌<◌, ◌≤◌, Bool, true, false, cond, List, [], ◌∷◌, ◌++◌, length, take, drop, refl, sym, ap, ◌∙◌, subst, append_assoc, eqb-true, arith}
 use Rattle.std.specs.Prelude.{◌==◌, ◌&&◌, nat_le, nat_lt, slice_index}
 use Rattle.std.proofs.lemmas.Bool.{leb-true, leb-false, le-leb, and_parts, and_from}
@@ -47,7 +47,7 @@ unfolding behind_within
 behind_within-none zero s e = refl
 behind_within-none (suc n) s e = ap (λ (b : Bool). cond b (behind_within n (drop (note_length s) s)) s) e
 
--- what is behind a notification is shorter
+-- what follows a notification is shorter
 pub shorter : (n : ℕ) (s : List ℕ) → is_whole s ≡ true → length s ≤ suc n → length (drop (note_length s) s) ≤ n
 shorter n s e l =
     let h : length (drop (note_length s) s) ≡ length s - note_length s = length-drop (note_length s) s in
@@ -55,7 +55,7 @@ shorter n s e l =
     let w : 8 ≤ length s = whole-head s e in
     omega arith
 
--- any number that is no less than the bytes tells all
+-- any number that is no less than the bytes reports all
 notes_within-enough : (n m : ℕ) (s : List ℕ) → length s ≤ n → length s ≤ m → notes_within n s ≡ notes_within m s
 notes_within-enough n m s l k = go n m s l k (is_whole s) refl
   where
@@ -83,7 +83,7 @@ behind_within-enough n m s l k = go n m s l k (is_whole s) refl
 one_byte : (s : List ℕ) → is_whole s ≡ true → length s ≡ suc (length s - 1)
 one_byte s e = let w : 8 ≤ length s = whole-head s e in omega arith
 
--- a whole notification is told, and the stream goes on behind it
+-- a whole notification is reported, and the stream goes on after it
 pub notes-whole : (s : List ℕ) → is_whole s ≡ true → notes s ≡ event_of s ∷ notes (drop (note_length s) s)
 unfolding notes
 notes-whole s e =
@@ -100,7 +100,7 @@ unfinished-whole s e =
     ∙ behind_within-whole (length s - 1) s e
     ∙ behind_within-enough (length s - 1) (length (drop (note_length s) s)) (drop (note_length s) s) (shorter (length s - 1) s e l) (omega arith)
 
--- an unfinished one tells nothing, and stays
+-- an unfinished one reports nothing, and stays
 pub notes-none : (s : List ℕ) → is_whole s ≡ false → notes s ≡ []
 unfolding notes
 notes-none s e = notes_within-none (length s) s e
@@ -109,7 +109,7 @@ pub unfinished-none : (s : List ℕ) → is_whole s ≡ false → unfinished s �
 unfolding unfinished
 unfinished-none s e = behind_within-none (length s) s e
 
--- bytes behind a notification do not change it
+-- bytes after a notification do not change it
 data_length-append : (s t : List ℕ) → 8 ≤ length s → data_length (s ++ t) ≡ data_length s
 data_length-append s t l =
     ap (λ (n : ℕ). word n (slice_index (s ++ t) 7)) (get_or_append_left s t 0 6 (omega arith))
@@ -171,7 +171,7 @@ notes_step s t e =
 unfinished_step : (s t : List ℕ) → is_whole s ≡ true → unfinished (s ++ t) ≡ unfinished (drop (note_length s) s ++ t)
 unfinished_step s t e = unfinished-whole (s ++ t) (whole-append s t e) ∙ ap unfinished (drop-append s t e)
 
--- what follows is read behind the unfinished one
+-- what follows is read after the unfinished one
 pub notes-append : (s t : List ℕ) → notes (s ++ t) ≡ notes s ++ notes (unfinished s ++ t)
 notes-append s t = go (length s) s (omega arith) (is_whole s) refl
   where
@@ -233,7 +233,7 @@ short s e = go (nat_le 8 (length s)) refl (nat_le (note_length s) (length s)) re
 pub unfinished-short : (s : List ℕ) → length (unfinished s) < 72
 unfinished-short s = short (unfinished s) (unfinished-not_whole s)
 
--- a slice to the end is what is behind its beginning
+-- a slice to the end is what follows its beginning
 pub to_the_end : (at : ℕ) (s : List ℕ) → take (length s - at) (drop at s) ≡ drop at s
 to_the_end at s = let l : length (drop at s) ≡ length s - at = length-drop at s in take_all (length s - at) (drop at s) (omega arith)
 
@@ -271,7 +271,7 @@ behind_more s stream at n whole e w t k h =
     ∙ ap (λ (xs : List ℕ). unfinished (drop n xs)) e
     ∙ ap unfinished (drop-drop n at s)
 
--- nothing whole is left behind `at`
+-- nothing whole is left after `at`
 pub told_all : (s stream : List ℕ) (at : ℕ) (whole : Bool) (first now : List Event) → stream ≡ drop at s → whole ≡ is_whole stream → whole ≡ false
     → ((told : List Event) × (now ≡ first ++ told) × (notes s ≡ told ++ notes (drop at s))) → now ≡ first ++ notes s
 told_all s stream at whole first now e w f told =

@@ -1,4 +1,4 @@
--- What is told: notes however they are cut, and bytes that are received or dropped.
+-- What is reported: notes however they are cut, and bytes that are received or dropped.
 use Rattle.std.proofs.Common.{◌≡◌, ℕ, zero, suc, ◌+◌, ◌≤◌, Bool, true, false, not, cond, List, [], ◌∷◌, ◌++◌, length, drop, map, refl, sym, ap, ◌∙◌, append_assoc, add-zero, zero-add, arith}
 use Rattle.std.specs.Prelude.{Option, Some, None, ◌&&◌, slice_index}
 use Rattle.std.specs.List.{concat}
@@ -32,7 +32,7 @@ notes_joined : (stream : List ℕ) (cuts : List (List ℕ)) → stream_behind st
 notes_joined stream [] = sym (append-nil stream)
 notes_joined stream (bytes ∷ cuts) = notes_joined (stream ++ bytes) cuts ∙ append_assoc stream bytes (concat cuts)
 
--- what follows hangs on the stream alone
+-- what follows depends on the stream alone
 same_behind : (before other rest : List Completion) → stream_of before ≡ stream_of other → events_behind before rest ≡ events_behind other rest
 same_behind before other [] e = refl
 same_behind before other (c ∷ rest) e =
@@ -60,7 +60,7 @@ cut_anywhere before after cuts others e =
 bytes_told-append : (first then : List Event) → bytes_told (first ++ then) ≡ bytes_told first ++ bytes_told then
 bytes_told-append first then = ap concat (map-append bytes_in first then) ∙ concat-append (map bytes_in first) (map bytes_in then)
 
--- notifications tell no bytes that were received
+-- notifications report no bytes that were received
 note_is_silent : (s : List ℕ) → bytes_in (event_of s) ≡ []
 note_is_silent s = go (is_bad s) (is_state s)
   where

@@ -1,4 +1,4 @@
--- Notifications of a serial port, one behind the other in a stream of bytes (CDC 1.2, section 6.3; PSTN 1.2, section 6.5).
+-- Notifications of a serial port, one after the other in a stream of bytes (CDC 1.2, section 6.3; PSTN 1.2, section 6.5).
 use Rattle.std.specs.Prelude.{◌≡◌, ℕ, zero, suc, ◌+◌, Bool, ◌==◌, ◌&&◌, nat_le, nat_lt, if◌then◌else◌, List, [], ◌∷◌, ◌++◌, length, drop, slice_index}
 use Rattle.usb_ctrl.specs.Setup.{word}
 use Rattle.usb_acm.specs.declared.event.Event.{Event}
@@ -24,7 +24,7 @@ is_whole stream = nat_le 8 (length stream) && nat_le (note_length stream) (lengt
 abbrev pub is_state : List ℕ → Bool
 is_state stream = slice_index stream 0 == 0xA1 && slice_index stream 1 == 0x20 && data_length stream == 2
 
--- what it tells
+-- what it reports
 abbrev pub event_of : List ℕ → Event
 event_of stream =
     if is_bad stream then BadNote
@@ -36,18 +36,18 @@ unfoldable pub notes_within : ℕ → List ℕ → List Event
 notes_within zero stream = []
 notes_within (suc n) stream = if is_whole stream then event_of stream ∷ notes_within n (drop (note_length stream) stream) else []
 
--- what is behind them
+-- what follows them
 unfoldable pub behind_within : ℕ → List ℕ → List ℕ
 behind_within zero stream = stream
 behind_within (suc n) stream = if is_whole stream then behind_within n (drop (note_length stream) stream) else stream
 
--- all notifications of a stream, which are no more than its bytes, and the unfinished one behind them
+-- all notifications of a stream, which are no more than its bytes, and the unfinished one after them
 unfoldable pub notes : List ℕ → List Event
 notes stream = notes_within (length stream) stream
 
 unfoldable pub unfinished : List ℕ → List ℕ
 unfinished stream = behind_within (length stream) stream
 
--- items were added behind the old ones
+-- items were added after the old ones
 abbrev pub Grown : {X : Type 0} → List X → List X → Type 0
 Grown {X} old new = (more : List X) × (new ≡ old ++ more)

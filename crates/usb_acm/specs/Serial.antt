@@ -47,7 +47,7 @@ lost done = length (bytes_where (λ (c : Completion). is_data c.role && not (suc
 abbrev pub capped : ℕ → ℕ
 capped n = min n (2 ^ 64 - 1)
 
--- a note's bytes go behind those so far; one that failed ends their stream, and the next begins a new one
+-- a note's bytes go after those so far; one that failed ends their stream, and the next begins a new one
 abbrev pub joined : List ℕ → Role → Code → List ℕ → List ℕ
 joined stream NoteRole Zero moved = stream ++ moved
 joined stream NoteRole (Fault errno) moved = []
@@ -61,16 +61,16 @@ stream_behind stream (c ∷ done) = stream_behind (joined stream c.role c.status
 unfoldable pub stream_of : List Completion → List ℕ
 stream_of done = stream_behind [] done
 
--- the notifications of a stream whose last byte is among the moved ones, which come behind it
+-- the notifications of a stream whose last byte is among the moved ones, which come after it
 unfoldable pub notes_more : List ℕ → List ℕ → List Event
 notes_more stream moved = drop (length (notes stream)) (notes (stream ++ moved))
 
--- bytes that came are told where there are any
+-- bytes that came are reported where there are any
 abbrev pub data_events : List ℕ → List Event
 data_events [] = []
 data_events (byte ∷ bytes) = Rx (byte ∷ bytes) ∷ []
 
--- a control transfer that set the line coding tells what it sent: 21 20, SET_LINE_CODING (PSTN 1.2, section 6.3.10)
+-- a control transfer that set the line coding reports what it sent: 21 20, SET_LINE_CODING (PSTN 1.2, section 6.3.10)
 abbrev pub sets_coding : List ℕ → Bool
 sets_coding setup = (setup_of setup).kind == 0x21 && (setup_of setup).request == 0x20
 
@@ -78,7 +78,7 @@ abbrev pub coding_events : Option (List ℕ) → List ℕ → List Event
 coding_events None moved = []
 coding_events (Some setup) moved = if sets_coding setup then Coding moved ∷ [] else []
 
--- what a completion tells, where these are the notifications that it brings to their end
+-- what a completion reports, where these are the notifications that it brings to their end
 abbrev pub events_with : List Event → Role → Code → Option (List ℕ) → List ℕ → List Event
 events_with ended NoteRole Zero setup moved = ended
 events_with ended Read0 Zero setup moved = data_events moved
@@ -87,7 +87,7 @@ events_with ended Write status setup moved = Tx (length moved) status ∷ []
 events_with ended Ctl Zero setup moved = coding_events setup moved
 events_with ended role status setup moved = []
 
--- the events of one completion, which came behind all these
+-- the events of one completion, which came after all these
 abbrev pub events_of : List Completion → Completion → List Event
 events_of before c = events_with (notes_more (stream_of before) c.moved) c.role c.status c.setup c.moved
 

@@ -1,4 +1,4 @@
--- What the events of a serial port mean: the bytes that they tell, and notes without the completions that brought them.
+-- What the events of a serial port mean: the bytes that they report, and notes without the completions that brought them.
 use Rattle.std.specs.Prelude.{ℕ, List, [], map, None}
 use Rattle.std.specs.List.{concat}
 use Rattle.usb_types.specs.declared.errno.Code.TheVariants.{Zero}
@@ -7,7 +7,7 @@ use Rattle.usb_acm.specs.declared.event.Event.{Event}
 use Rattle.usb_acm.specs.declared.event.Event.TheVariants.{Rx, State, Note, BadNote, Coding, Tx}
 use Rattle.usb_acm.specs.Serial.{Completion, is_data, bytes_where}
 
--- the bytes that an event tells as received
+-- the bytes that an event reports as received
 abbrev pub bytes_in : Event → List ℕ
 bytes_in (Rx bytes) = bytes
 bytes_in (State bits) = []

@@ -1,3 +1,4 @@
+//! The core of a serial port's driver: what its completions mean, and what its transfers do next.
 ghost use Rattle.std.specs.Prelude.{◌≡◌, ◌++◌, ◌∷◌, [], ◌+◌, ◌<◌, ◌^◌, List, length, OnOk, OnErr, IfOk};
 ghost use Rattle.usb_acm.specs.Serial.{sets_coding as sets_coding_of};
 ghost use Rattle.usb_acm.specs.Acm.{again_of, action_of};
@@ -113,7 +114,7 @@ impl Acm {
         }
     }
 
-    /// Tells the notifications that are whole with these bytes, and keeps what is behind them. An `Err` changes nothing.
+    /// Reports the notifications that are whole with these bytes, and keeps what follows them. An `Err` changes nothing.
     fn note(&mut self, moved: &[u8]) -> Result<(), Memory>
         ensures ok { OnOk result (self.new ≡ record self.old { part = unfinished (self.old.part ++ moved.now); events = self.old.events ++ notes (self.old.part ++ moved.now) }) }
         ensures err { OnErr result (self.new ≡ self.old) }
@@ -128,8 +129,8 @@ impl Acm {
         Ok(())
     }
 
-    /// Tells the notifications that are whole with these bytes, and keeps what is behind them. An `Err` may leave bytes
-    /// and events behind those that stood.
+    /// Reports the notifications that are whole with these bytes, and keeps what follows them. An `Err` may leave bytes
+    /// and events after those that stood.
     fn gather(&mut self, moved: &[u8]) -> Result<(), AllocError>
         ensures ok { OnOk result (self.new ≡ record self.old { part = unfinished (self.old.part ++ moved.now); events = self.old.events ++ notes (self.old.part ++ moved.now) }) }
         ensures part { OnErr result (Grown self.old.part self.new.part) }
@@ -142,7 +143,7 @@ impl Acm {
         Ok(())
     }
 
-    /// Tells the bytes that came, where there are any. An `Err` changes nothing.
+    /// Reports the bytes that came, where there are any. An `Err` changes nothing.
     fn receive(&mut self, moved: &[u8]) -> Result<(), Memory>
         ensures ok { OnOk result (self.new ≡ record self.old { events = self.old.events ++ data_events moved.now }) }
         ensures err { OnErr result (self.new ≡ self.old) }
@@ -154,14 +155,14 @@ impl Acm {
         self.tell(Event::Rx { bytes })
     }
 
-    /// Counts bytes that are not told.
+    /// Counts bytes that are not reported.
     fn lose(&mut self, count: u64)
         ensures { self.new ≡ record self.old { dropped = capped (self.old.dropped + count) } }
     {
         self.dropped = self.dropped.saturating_add(count);
     }
 
-    /// Tells the line coding that was sent, where the control transfer sets it. An `Err` changes nothing.
+    /// Reports the line coding that was sent, where the control transfer sets it. An `Err` changes nothing.
     fn control(&mut self, setup: Option<[u8; 8]>, moved: &[u8]) -> Result<(), Memory>
         ensures ok { OnOk result (self.new ≡ record self.old { events = self.old.events ++ coding_events setup moved.now }) }
         ensures err { OnErr result (self.new ≡ self.old) }

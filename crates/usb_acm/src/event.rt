@@ -1,3 +1,4 @@
+//! The events of a serial port.
 use usb_types::{Buf, Code};
 
 /// What happened at a serial port.

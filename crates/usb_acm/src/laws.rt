@@ -5,7 +5,7 @@ ghost use Rattle.usb_acm.specs.Notifications.{note_length, is_whole, event_of, n
 ghost use Rattle.usb_acm.specs.Serial.{Completion, received, lost, serial_events, events_behind};
 ghost use Rattle.usb_acm.specs.Told.{bytes_told, read_bytes, note_with};
 
-/// What was told stays told: completions that follow add events behind those so far.
+/// What was reported stays reported: completions that follow add events after those so far.
 pub fn events_only_grow()
     ensures { (before after : List Completion) → serial_events (before ++ after) ≡ serial_events before ++ events_behind before after }
 {}
@@ -25,7 +25,7 @@ pub fn notes_come_one_after_another()
     ensures short { (stream : List ℕ) → length (unfinished stream) < 72 }
 {}
 
-/// The bytes that the events tell are those of the reads that succeeded, in order.
+/// The bytes that the events report are those of the reads that succeeded, in order.
 pub fn what_is_told_was_received()
     ensures { (done : List Completion) → bytes_told (serial_events done) ≡ received done }
 {}

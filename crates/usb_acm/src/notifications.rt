@@ -1,4 +1,4 @@
-//! Notifications, one behind the other in a stream of bytes (CDC 1.2 §6.3, PSTN 1.2 §6.5).
+//! Notifications, one after the other in a stream of bytes (CDC 1.2 §6.3, PSTN 1.2 §6.5).
 ghost use Rattle.std.specs.Prelude.{◌≡◌, ◌++◌, ◌≤◌, length, drop, true, IfOk, OnOk, OnErr};
 ghost use Rattle.usb_acm.specs.Notifications.{data_length as data_length_of, note_length as note_length_of, is_whole as is_whole_of, is_state as is_state_of, event_of, notes, unfinished, Grown};
 
@@ -11,10 +11,10 @@ const HEAD: usize = 8;
 const MOST_DATA: usize = 64;
 /// The bmRequestType of a notification: from the interface, of a class.
 const FROM_INTERFACE: u8 = 0xA1;
-/// The bNotification that tells of the lines (PSTN 1.2 §6.5.4).
+/// The bNotification that reports the lines (PSTN 1.2 §6.5.4).
 const SERIAL_STATE: u8 = 0x20;
 
-/// Adds what the whole notifications at the front tell, and says where the bytes behind them begin. An `Err` may leave
+/// Adds what the whole notifications at the front report, and says where the bytes after them begin. An `Err` may leave
 /// some of it.
 pub(crate) fn push_notes(events: &mut Vec<Event>, bytes: &[u8]) -> Result<usize, AllocError>
     ensures ok { OnOk result (events.new.items ≡ events.old.items ++ notes bytes.now) }
@@ -54,7 +54,7 @@ fn data_length(stream: &[u8]) -> usize
     u16::from_le_bytes([stream[6], stream[7]]).into()
 }
 
-/// What the notification at the front tells.
+/// What the notification at the front reports.
 fn event(stream: &[u8]) -> Event
     requires { is_whole_of stream.now ≡ true }
     ensures { result ≡ event_of stream.now }
@@ -70,7 +70,7 @@ fn event(stream: &[u8]) -> Event
     Event::Note { request: stream[1] }
 }
 
-/// Whether the notification at the front tells of the lines.
+/// Whether the notification at the front reports the lines.
 fn is_state(stream: &[u8]) -> bool
     requires { 8 ≤ length stream.now }
     ensures { result ≡ is_state_of stream.now }

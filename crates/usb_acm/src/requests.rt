@@ -1,3 +1,4 @@
+//! The requests that set up a serial port (PSTN 1.2 §6.3).
 ghost use Rattle.std.specs.Prelude.{◌≡◌, [], ◌∷◌, ◌++◌};
 ghost use Rattle.std.specs.Int.{w32, to_le_bytes};
 ghost use Rattle.usb_ctrl.specs.Setup.{setup_of, low, high};

@@ -28,7 +28,7 @@ use Rattle.usb_bind.proofs.Probing.{planned_says}
 no_end : End
 no_end = record { address = 0; attributes = 0; max_packet = 0; interval = 0; tail = []; extras = [] }
 
--- an URB that is needed is at endpoint 00 or at one of so many behind it
+-- an URB that is needed is at endpoint 00 or at one of so many after it
 abbrev IsPlaced : ℕ → Option ℕ → Type 0
 IsPlaced ends None = Unit {0}
 IsPlaced ends (Some p) = p < ends
@@ -70,7 +70,7 @@ near_all driver config alt (role ∷ roles) needs h =
     subst (All (IsNear (length (host_ends config)))) (sym parts.4)
     (All-cons (IsNear (length (host_ends config))) parts.0 parts.1 (near_for driver config alt role parts.0 parts.2) (near_all driver config alt roles parts.1 parts.3))
 
--- homes of such are below the number behind them
+-- homes of such are below the number after them
 home_below : (first ends bound : ℕ) (place : Option ℕ) → IsPlaced ends place → first + 1 + ends ≤ bound → option_map_or (λ p. first + 1 + p) place first < bound
 home_below first ends bound None near h = omega arith
 home_below first ends bound (Some p) near h = omega (arith, near)

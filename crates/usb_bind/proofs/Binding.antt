@@ -96,7 +96,7 @@ module _ (board : BoardValue) (spare d : ℕ) where
       at_in rows interface device.0 alt.0 plan (some_in (attached_at board d) NoDriver device.0 device.1) alt.2
 
 -- the binding that a probe of an interface made: its device and interface, the URBs that its driver needs, each with its
--- home, and the pool behind it
+-- home, and the pool after it
 pub record IsMade (board : BoardValue) (pool : Homes) (rows : List IdRow) (d interface : ℕ) (b : Bound) : Type 0 where
   pub device : b.device ≡ d
   pub face : b.interface ≡ interface

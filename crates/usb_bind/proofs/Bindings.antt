@@ -204,7 +204,7 @@ held_there board device interface driver (b ∷ bindings) there h =
     held_by board device interface b (find (has_interface device interface) bindings) driver (has_interface device interface b) refl (there 0 b (omega arith)) h
     (held_there board device interface driver bindings (λ k d below. there (suc k) d (omega arith)))
 
--- an interface that some driver holds is there, so a claim of it is told the driver
+-- an interface that some driver holds is there, so a claim of it is answered with the driver
 pub held_busy : (board : BoardValue) (device interface : ℕ) (driver : Driver) → All (AreThere board) board.bindings → holder_of board device interface ≡ Some driver
     → claim_fault board device interface ≡ Some (Busy driver)
 held_busy board device interface driver there held =

@@ -41,7 +41,7 @@ has_find : (alts : List Alt) (n : ℕ) (other : Option Alt) → has_number alts 
 has_find [] n other h = absurd cc
 has_find (a ∷ alts) n other h = has_by a alts n other (a.number == n) h (has_find alts n other)
 
--- what is found behind one more interface
+-- what is found after one more interface
 find_push : (alts : List Alt) (a : Alt) (n : ℕ) → find (at_number n) (alts ++ a ∷ []) ≡ option_or (find (at_number n) alts) (cond (a.number == n) (Some a) None)
 find_push [] a n = refl
 find_push (b ∷ alts) a n = push_by b (find (at_number n) alts) (cond (a.number == n) (Some a) None) (find (at_number n) (alts ++ a ∷ [])) (b.number == n) (find_push alts a n)

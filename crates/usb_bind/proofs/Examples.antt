@@ -154,14 +154,14 @@ modem_pool = refl
 modem_cancelled : released_all (pool_after board pool profile_rows 0 0) modem_bound.urbs ≡ pool
 modem_cancelled = refl
 
--- the data interface by itself has no driver, and behind the probe it is busy
+-- the data interface by itself has no driver, and after the probe it is busy
 data_alone : probed board pool profile_rows 0 1 ≡ Err NoDriver
 data_alone = refl
 
 data_busy : probed (with_binding board modem_bound) pool profile_rows 0 1 ≡ Err (Busy Acm)
 data_busy = refl
 
--- where the data interface is taken that is told, and not that the pool is full
+-- where the data interface is taken that is reported, and not that the pool is full
 other_first : probed (with_binding board (claim_of Printer 0 1)) [] profile_rows 0 0 ≡ Err (OtherBusy Printer)
 other_first = refl
 

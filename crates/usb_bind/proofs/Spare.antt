@@ -206,7 +206,7 @@ pub next_number : (number n : ℕ) (heap more : List (Reverse ℕ)) → IsPermut
 next_number number n heap more p is =
     times_pushed n (record { 0 = number }) heap more p ∙ ap (λ t. one_if (number == n) + t) is ∙ counts_next number n
 
--- the answer of a take, and the pool behind it, where the least number is known
+-- the answer of a take, and the pool after it, where the least number is known
 pub next_is : (inside pool : Homes) (n : ℕ) → inside ≡ pool → least_in inside ≡ Some n → Some (urb n) ≡ next_urb pool
 next_is inside pool n is least = sym (ap (option_map urb) (ap least_in (sym is) ∙ least))
 

@@ -1,4 +1,4 @@
--- A cancel behind a probe gives back the board and the pool.
+-- Cancelling right after a probe restores board and pool.
 use Rattle.std.proofs.Common.{◌≡◌, ℕ, Bool, true, false, not, List, [], ◌∷◌, ◌++◌, set, Option, Some, None, Ok, zero, suc, refl, ap, ◌∙◌}
 use Rattle.std.specs.Prelude.{◌&&◌, ◌||◌, ◌==◌, is_none, filter, find, option_map}
 use Rattle.std.specs.Option.{option_map_or}
@@ -20,7 +20,7 @@ none_twice (x ∷ pool) zero (suc b) = refl
 none_twice (x ∷ pool) (suc a) zero = refl
 none_twice (x ∷ pool) (suc a) (suc b) = ap (λ t. x ∷ t) (none_twice pool a b)
 
--- one URB may be released before the others or behind them
+-- one URB may be released before the others or after them
 released_first : (urbs : List (Option UrbId)) (pool : Homes) (n : ℕ) → released_all (set pool n None) urbs ≡ set (released_all pool urbs) n None
 released_first [] pool n = refl
 released_first (None ∷ urbs) pool n = released_first urbs pool n

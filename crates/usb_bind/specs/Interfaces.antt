@@ -37,7 +37,7 @@ joined ends e = if joins ends e then ends ++ e ∷ [] else ends
 abbrev pub ends_of : List Alt → List End
 ends_of alts = flat_map (λ (a : Alt). a.ends) alts
 
--- the device's endpoints in the host, behind endpoint 00: those of its interfaces in descriptor order, each address once
+-- the device's endpoints in the host, after endpoint 00: those of its interfaces in descriptor order, each address once
 abbrev pub host_ends : ConfigTree → List End
 host_ends config = fold joined [] (ends_of (interfaces_of config))
 

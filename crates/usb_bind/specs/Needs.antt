@@ -71,7 +71,7 @@ end_for driver config alt Read1 = find is_bulk_in (data_ends driver config alt)
 end_for driver config alt Write = find is_bulk_out (data_ends driver config alt)
 end_for driver config alt Ctl = None
 
--- an URB that a driver needs, with its endpoint's place behind endpoint 00, which itself is None
+-- an URB that a driver needs, with its endpoint's place after endpoint 00, which itself is None
 pub record Need : Type 0 where
   pub role : Role
   pub place : Option ℕ

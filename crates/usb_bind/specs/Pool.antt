@@ -21,7 +21,7 @@ least_in pool = position is_none pool
 abbrev pub urb : ℕ → UrbId
 urb n = record { 0 = n }
 
--- the URB that is taken next, and the pool behind it
+-- the URB that is taken next, and the pool after it
 abbrev pub next_urb : Homes → Option UrbId
 next_urb pool = option_map urb (least_in pool)
 

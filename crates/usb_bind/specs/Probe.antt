@@ -1,4 +1,4 @@
--- What a probe answers, and what the board and the pool are behind it.
+-- What a probe answers, and what the board and the pool are after it.
 use Rattle.std.specs.Prelude.{ℕ, zero, suc, ◌+◌, nat_lt, if◌then◌else◌, List, [], ◌∷◌, map, length, slice_index, Option, Some, None, option_and_then, option_map, ok_or, fold, Result, Ok, Err}
 use Rattle.std.specs.Option.{option_map_or}
 use Rattle.usb_types.specs.declared.urb.UrbId.{UrbId}
@@ -32,7 +32,7 @@ in_slots zero xs = []
 in_slots (suc n) [] = None ∷ in_slots n []
 in_slots (suc n) (x ∷ xs) = Some x ∷ in_slots n xs
 
--- the home of an URB: the device's endpoint 00, or one at a place behind it
+-- the home of an URB: the device's endpoint 00, or one at a place after it
 abbrev pub home_of : ℕ → Need → ℕ
 home_of first need = option_map_or (λ place. first + 1 + place) need.place first
 
@@ -82,7 +82,7 @@ abbrev pub all_next : Homes → List (Option ℕ) → List (Option UrbId)
 all_next pool [] = []
 all_next pool (slot ∷ slots) = slot_urb pool slot ∷ all_next (slot_taken pool slot) slots
 
--- the pool behind that
+-- the pool after that
 abbrev pub all_taken : Homes → List (Option ℕ) → Homes
 all_taken pool slots = fold slot_taken pool slots
 

@@ -1,4 +1,4 @@
-//! The endpoints that the host knows of a device, behind its endpoint 00.
+//! The endpoints that the host knows of a device, after its endpoint 00.
 ghost use Rattle.usb_desc.specs.declared.tree.Alt.{Alt};
 ghost use Rattle.usb_desc.specs.declared.tree.End.{End};
 ghost use Rattle.usb_machine.specs.declared.layout.Shape.{Shape};
@@ -98,7 +98,7 @@ fn push_alt(
     }
 }
 
-/// Adds what the host knows of a device's endpoints, behind its endpoint 00.
+/// Adds what the host knows of a device's endpoints, after its endpoint 00.
 pub fn push_shapes(shapes: &mut List<Shape>, device: u32, config: &ConfigTree) -> Result<(), Memory>
     ensures { OnOk result (shapes.new ≡ shapes.old ++ map (shape_of_end device) (host_ends config.now)) }
 {
@@ -137,7 +137,7 @@ fn place_in(alt: &Alt, numbers: &mut Met, met: &mut Met, address: u8) -> Option<
     }
 }
 
-/// An address's place among the endpoints behind endpoint 00.
+/// An address's place among the endpoints after endpoint 00.
 pub(crate) fn place_of(config: &ConfigTree, address: u8) -> Option<u32>
     ensures exact { result ≡ place_of config.now address }
     ensures below { IfSome result (λ place. place < 256) }

@@ -33,7 +33,7 @@ pub fn a_refused_probe_changes_nothing()
         → (board_after board (probed board pool rows device interface) ≡ board) × (pool_after board pool rows device interface ≡ pool) }
 {}
 
-/// A cancel behind a probe gives back the board and the pool as they were.
+/// Cancelling right after a probe restores board and pool.
 pub fn a_cancel_undoes_a_probe()
     ensures { (board : BoardValue) (pool : Homes) (rows : List IdRow) (device interface : ℕ) (b : Bound)
         → probed board pool rows device interface ≡ Ok b
@@ -60,7 +60,7 @@ pub fn an_interface_is_found_by_its_number()
         → interface_at config number ≡ find (λ (a : Alt). a.number == number) (interfaces_of config) }
 {}
 
-/// No address stands twice among the endpoints of the host behind endpoint 00, and 00 does not stand there.
+/// No address stands twice among the endpoints of the host after endpoint 00, and 00 does not stand there.
 pub fn an_address_stands_once()
     ensures { (config : ConfigTree)
         → AllPairs (λ (e f : End). e.address ≢ f.address) (host_ends config) × All (λ (e : End). e.address ≢ 0) (host_ends config) }
@@ -72,7 +72,7 @@ pub fn an_endpoint_has_its_place()
         → interface_at config number ≡ Some alt → end_for driver config alt role ≡ Some e → IsSome (place_of config e.address) }
 {}
 
-/// A claim of an interface is told the driver that holds it, exactly where one does.
+/// A claim of an interface is answered with the driver that holds it, exactly where one does.
 pub fn a_held_interface_is_busy()
     ensures { (board : BoardValue) (device interface : ℕ) (driver : Driver)
         → All (AreThere board) board.bindings
@@ -85,7 +85,7 @@ pub fn a_driver_needs_its_roles()
         → needed driver config alt ≡ Some needs → map (λ (n : Need). n.role) needs ≡ roles_of driver }
 {}
 
-/// A binding has an URB for each role of its driver.
+/// A binding that a probe makes has an URB for each role of its driver. One of a claim by itself has none.
 pub fn a_binding_has_its_urbs()
     ensures { (board : BoardValue) (pool : Homes) (rows : List IdRow) (device interface : ℕ) (b : Bound)
         → probed board pool rows device interface ≡ Ok b

@@ -19,7 +19,7 @@ fn is_union(descriptor: &[u8]) -> bool
         && descriptor[2] == UNION
 }
 
-// What stands behind the descriptor at the head, of which each byte belongs to one.
+// What stands after the descriptor at the head, of which each byte belongs to one.
 #[tactic(auto, using(crate::proofs::UnionWalk::drop_all))]
 fn behind(bytes: &[u8]) -> &[u8]
     requires { 0 < length bytes.now }
@@ -61,7 +61,7 @@ fn union_in_ends(ends: &[End]) -> Option<u8>
     None
 }
 
-/// The number of the data interface. The one behind 255 is none.
+/// The number of the data interface. The one after 255 is none.
 pub(crate) fn data_interface(alt: &Alt) -> u16
     ensures { result ≡ data_interface alt.now }
 {

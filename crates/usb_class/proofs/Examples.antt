@@ -1,4 +1,4 @@
--- Examples that the checker computes: what drivers do with transfers, and what they tell.
+-- Examples that the checker computes: what drivers do with transfers, and what they report.
 use Rattle.std.proofs.Common.{◌≡◌, ℕ, true, false, List, [], ◌∷◌, refl}
 use Rattle.std.specs.Prelude.{Some, None}
 use Rattle.usb_types.specs.declared.errno.Errno.TheVariants.{ENOENT}
@@ -52,7 +52,7 @@ a_port_tells_what_came : told_of Acm no_origin came ≡ Serial (Rx (0x41 ∷ 0x4
 unfolding serial_events
 a_port_tells_what_came = refl
 
--- a job of one byte that was printed, behind an id of eight bytes that says MFG:A;
+-- a job of one byte that was printed, after an id of eight bytes that says MFG:A;
 abbrev printed : List Done
 printed = record { role = Write; status = Zero; transfer = record { setup = None; buf = 0x41 ∷ []; from = 0; len = 1; short_not_ok = false; actual = 1; number = 6 } } ∷ []
 

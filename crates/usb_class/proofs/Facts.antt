@@ -68,7 +68,7 @@ again_reads Acm Ctl status t from len is off = absurd cc
 again_reads Printer Ctl status t from len is off = absurd cc
 again_reads driver role status t from len is off = absurd cc
 
--- a job goes on behind its window, with some of what is left
+-- a job goes on after its window, with some of what is left
 job_again : (t : Transfer) (from len : ℕ) (b : Bool) → eqb (rest_of t) 0 ≡ b → cond b Rest (Again (t.from + t.len) (first_window (rest_of t))) ≡ Again from len
     → (from ≡ t.from + t.len) × (from + len ≤ length t.buf) × (0 < len)
 job_again t from len true e is = absurd cc
@@ -121,7 +121,7 @@ port_asks (Fault EPROTO) t is = absurd cc
 port_asks (Fault EOVERFLOW) t is = absurd cc
 port_asks status t is = absurd cc
 
--- only a printer's driver asks, behind a job
+-- only a printer's driver asks, after a job
 pub asks_by : (driver : Driver) (role : Role) (status : Code) (t : Transfer) → action_of driver role status t ≡ Ask → (driver ≡ Printer) × (role ≡ Write)
 asks_by Printer Write status t is = (refl, refl)
 asks_by Printer In status t is = absurd cc
@@ -278,7 +278,7 @@ call_request code Keyboard r i numbers bytes is = go (eqb code 23) refl is
 call_request code Acm r i numbers bytes is = port_request code i numbers bytes r (eqb code 24) (eqb code 25) (eqb code 26) (eqb code 27) refl refl refl refl is
 call_request code Printer r i numbers bytes is = printer_request code i numbers bytes r (eqb code 28) (eqb code 29) (eqb code 30) refl refl refl is
 
--- a driver's question: a printer's, with its window, of which nothing is moved, and behind which nothing stands
+-- a driver's question: a printer's, with its window, of which nothing is moved, and after which nothing stands
 pub record IsAskable (driver : Driver) (t : Transfer) : Type 0 where
   pub printer : driver ≡ Printer
   pub window : HasWindow t

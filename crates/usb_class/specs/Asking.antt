@@ -17,6 +17,6 @@ abbrev pub is_answer : Driver → Origin → Role → Transfer → Bool
 is_answer Printer o role t = is_question o.number role t
 is_answer driver o role t = false
 
--- whether the question is out behind a transfer that came back: where it is that one, it no longer is
+-- whether the question is out after a transfer that came back: where it is that one, it no longer is
 abbrev pub still_out : Driver → Origin → Role → Transfer → Bool → Bool
 still_out driver o role t out = if is_answer driver o role t then false else out

@@ -53,6 +53,6 @@ payload_for code numbers bytes =
     else if code == 29 then Some (0 ∷ [])
     else bytes
 
--- how many of so many bytes are its window: of a job the first ones, and else all
+-- length of its first window: at most 8,192 bytes for `print`, else the whole buffer
 abbrev pub window_for : ℕ → ℕ → ℕ
 window_for code n = if code == 28 then first_window n else n

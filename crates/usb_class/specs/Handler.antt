@@ -33,7 +33,7 @@ abbrev pub window_by : Action → Transfer → Transfer
 window_by (Again from len) t = record t { from = from; len = len; actual = 0 }
 window_by action t = record t { actual = 0 }
 
--- the statuses behind which a driver goes on: it succeeded, or failed in a way that may pass
+-- the statuses after which a driver goes on: it succeeded, or failed in a way that may pass
 abbrev pub goes_on : Code → Bool
 goes_on Zero = true
 goes_on (Fault EPROTO) = true

@@ -24,7 +24,7 @@ has_for u b role = option_map_or (λ (urb : UrbId). urb.0 == u) (urb_of_role b r
 abbrev pub role_in : ℕ → Bound → Option Role
 role_in u b = find (has_for u b) all_roles
 
--- how many bytes a read has that the driver keeps with its interface, by the descriptors of the interface's own setting
+-- buffer size in bytes of the driver's standing read, by the descriptors of the interface's own setting; None if it has none
 abbrev pub kept_size : BoardValue → Bound → Role → Option ℕ
 kept_size board b role =
     option_and_then (λ (a : Attached). option_and_then (λ (alt : Alt). read_size b.driver a.config alt role) (interface_at a.config b.interface)) (attached_at board b.device)

@@ -1,4 +1,4 @@
--- What a driver tells of all that came back to it.
+-- What a driver reports of all that came back to it.
 use Rattle.std.specs.Prelude.{List, map}
 use Rattle.usb_bind.specs.declared.row.Driver.{Driver}
 use Rattle.usb_bind.specs.declared.row.Driver.TheVariants.{Keyboard, Acm, Printer}

@@ -97,8 +97,8 @@ pub fn payload_for(
     }
 }
 
-/// How many of so many bytes are the window of a call on an interface, by its number in the table of calls: of a job the first
-/// ones, and else all.
+/// Length of the first window of a call on an interface, by its number in the table of calls: at most 8,192 bytes for
+/// `print`, else the whole buffer.
 pub fn window_for(code: u32, len: u32) -> u32
     ensures { result ≡ window_for code len }
 {

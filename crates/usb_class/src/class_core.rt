@@ -1,3 +1,4 @@
+//! The core of any class driver, and what it reports.
 ghost use Rattle.std.specs.Prelude.{◌≡◌, ◌++◌, ◌∷◌, [], true, false, if◌then◌else◌, List, None, IfSome, OnSome, IfNone, IfOk, OnOk, OnErr};
 ghost use Rattle.usb_machine.specs.Shapes.{HasWindow};
 ghost use Rattle.usb_class.specs.Done.{Done};
@@ -23,7 +24,7 @@ pub enum Core {
     Printer(Printer),
 }
 
-/// What a driver tells of its device.
+/// What a driver reports of its device.
 #[derive(Drop)]
 pub enum Told {
     Keys(List<Event>),
@@ -37,7 +38,7 @@ pub enum Told {
 
 impl Core {
     /// The core of a driver to which nothing came back yet, with the number of the question that it may ask by itself, its
-    /// interface, and what the device told when it was probed.
+    /// interface, and what the device reported when it was probed.
     pub fn new(
         alloc: Global,
         driver: Driver,
@@ -100,7 +101,7 @@ impl Core {
         }
     }
 
-    /// What the driver tells of all that came back, with its memory.
+    /// What the driver reports of all that came back, with its memory.
     pub fn into_told(self) -> Told
         ensures { (driver : Driver) (o : Origin) (done : List Done) → IsCore driver o done self → result ≡ told_of driver o done }
     {

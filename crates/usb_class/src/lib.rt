@@ -1,4 +1,4 @@
-//! The cores of the class drivers behind one type: what a binding's URB brought back finds the core of its driver here.
+//! The cores of the class drivers as one type: each completion is dispatched to the bound driver.
 #![tactic(auto)]
 
 mod calls;

@@ -33,7 +33,7 @@ pub fn role_of(bound: &Bound, urb: u32) -> Option<Role>
         .find(|role| has_for(urb, bound, *role))
 }
 
-/// How many bytes a read has that the driver keeps with its interface, by the descriptors of the interface's own setting.
+/// Buffer size in bytes of the driver's standing read, by the descriptors of the interface's own setting; None if it has none.
 pub fn kept_size(board: &Board, bound: &Bound, role: Role) -> Option<u32>
     ensures { result ≡ kept_size board.now bound.now role }
 {

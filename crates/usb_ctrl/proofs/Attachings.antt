@@ -23,7 +23,7 @@ went : {X Y : Type 0} (f : X → Result Y EnumFault) (r : Result X EnumFault) (y
 went f (Ok x) y h = (x, refl, h)
 went f (Err fault) y h = cc
 
--- an answer that comes to a stage has no fault
+-- an answer that yields a stage has no fault
 no_fault : (address : ℕ) (stage next : Stage) (reply : List ℕ) (code : Code) → heard address stage reply code ≡ Ok next → (code ≡ Zero) × (said stage reply ≡ Ok next)
 no_fault address stage next reply Zero h = (refl, h)
 no_fault address stage next reply (Fault e) h = cc

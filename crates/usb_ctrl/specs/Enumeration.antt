@@ -1,4 +1,4 @@
--- What the answers to the requests of an enumeration come to.
+-- What the answers to the requests of an enumeration yield.
 use Rattle.std.specs.Prelude.{◌≡◌, ℕ, ◌==◌, nat_lt, if◌then◌else◌, List, length, take, slice_index, fold, bytes_eq, Option, Some, None, Result, Ok, Err}
 use Rattle.std.specs.Option.{option_map_or}
 use Rattle.std.specs.Result.{result_map_both}
@@ -56,7 +56,7 @@ measured device reply =
 abbrev pub known : DeviceDesc → List ℕ → Result Stage EnumFault
 known device reply = result_map_both (Known device) fault_of (tree_of reply)
 
--- what a reply without a fault comes to
+-- what a reply without a fault yields
 abbrev pub said : Stage → List ℕ → Result Stage EnumFault
 said Fresh reply = begun reply
 said (Begun head) reply = Ok (Addressed head)
@@ -71,12 +71,12 @@ said Failed reply = Ok Failed
 abbrev pub asked : ℕ → Stage → ℕ
 asked address stage = option_map_or (λ (s : Setup). s.request) (asks address stage) 0
 
--- what an answer comes to
+-- what an answer yields
 abbrev pub heard : ℕ → Stage → List ℕ → Code → Result Stage EnumFault
 heard address stage reply Zero = said stage reply
 heard address stage reply (Fault errno) = Err (Status (asked address stage) errno)
 
--- what the answers so far come to
+-- what the answers so far yield
 abbrev pub reached : ℕ → List Answer → Result Stage EnumFault
 reached address answers =
     fold (λ so_far (a : Answer). then_by (λ stage. heard address stage a.reply a.code) so_far) (Ok Fresh) answers

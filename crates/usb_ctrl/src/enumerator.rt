@@ -52,7 +52,7 @@ impl Enumerator {
     }
 
     /// Takes the answer to the request that comes next. Where memory ran out the same request may be answered again,
-    /// and behind another fault nothing comes.
+    /// and after another fault nothing comes.
     pub fn answer(&mut self, reply: &[u8], code: Code) -> Result<(), EnumFault>
         requires { IsSome (asks self.old.address self.old.stage) }
         ensures turn { IsTurn (heard self.old.address self.old.stage reply.now code) self.old.stage self.new.stage result }

@@ -63,7 +63,7 @@ fn measured(device: DeviceDesc, reply: &[u8]) -> Result<Stage, EnumFault>
     Ok(Stage::Measured(device, total))
 }
 
-// What becomes of a stage by what its answer comes to.
+// The next stage for an answer.
 fn turned(next: Result<Stage, EnumFault>) -> (Stage, Result<(), EnumFault>)
     ensures { IsEnd next result.0 result.1 }
 {
@@ -73,7 +73,7 @@ fn turned(next: Result<Stage, EnumFault>) -> (Stage, Result<(), EnumFault>)
     }
 }
 
-// What a configuration comes to. Where memory runs out the stage stays.
+// What a configuration yields. Where memory runs out the stage stays.
 fn told(
     alloc: Global,
     device: DeviceDesc,
@@ -99,7 +99,7 @@ fn status(stage: &Stage, address: u8, errno: Errno) -> EnumFault
     EnumFault::Status { request, errno }
 }
 
-// What becomes of a stage by a reply without a fault.
+// The next stage for a reply without a fault.
 fn said(alloc: Global, stage: Stage, reply: &[u8]) -> (Stage, Result<(), EnumFault>)
     ensures { IsTurn (said stage reply.now) stage result.0 result.1 }
 {
@@ -115,7 +115,7 @@ fn said(alloc: Global, stage: Stage, reply: &[u8]) -> (Stage, Result<(), EnumFau
     }
 }
 
-/// What becomes of a stage by an answer, and what is told of it.
+/// The next stage for an answer, and what is reported of it.
 pub fn heard(
     alloc: Global,
     address: u8,

@@ -24,7 +24,7 @@ pub standard_two : (kind : ℕ) → 2 ≤ standard_length kind
 standard_two kind =
     two_either (eqb kind 1) _ _ (omega arith) (two_either (eqb kind 2) _ _ (omega arith) (two_either (eqb kind 4) _ _ (omega arith) (two_either (eqb kind 5) _ _ (omega arith) (omega arith))))
 
--- a descriptor that was cut off, and what is behind it
+-- a descriptor that was cut off, and what follows it
 pub record IsCut (bytes d behind : List ℕ) : Type 0 where
   pub header : 2 ≤ get_or bytes 0 0
   pub within : get_or bytes 0 0 ≤ length bytes

@@ -1,4 +1,4 @@
--- The fault that reading tells is the first one.
+-- The fault that reading reports is the first one.
 use Rattle.std.proofs.Common.{◌≡◌, ℕ, zero, suc, ◌-◌, ◌<◌, ◌≤◌, ◌⊎◌, inl, inr, List, [], ◌∷◌, ◌++◌, length, drop, Some, None, Result, Ok, Err, refl, sym, ap, ◌∙◌, arith}
 use Rattle.std.specs.List.{AllByRecursion}
 use Rattle.usb_desc.specs.declared.tree.ConfigTree.{ConfigTree}
@@ -66,7 +66,7 @@ is_first bytes fault fits e =
       ]
     ]
 
--- what is the first fault is told
+-- what is the first fault is reported
 pub first_told : (bytes : List ℕ) (fault : DescFault) → IsFirstFault bytes fault → first_fault bytes ≡ Some fault
 first_told bytes fault (inl (inl h)) =
     ap (λ (r : Result (List ℕ × List ℕ) DescFault). fault_in (then_on (λ (first : List ℕ × List ℕ). then_on (λ (tree : ConfigTree). read_on (length bytes) tree 0 first.1) (begun (length bytes) first.0)) r)) h

@@ -42,7 +42,7 @@ whole_cut bytes d behind fits c =
       bytes = each_left IsByte (take n bytes) (drop n bytes) parted;
     })
 
--- a descriptor that was read, and what is behind it
+-- a descriptor that was read, and what follows it
 pub record IsStep (tree next : ConfigTree) (b : ℕ) (bytes : List ℕ) : Type 0 where
   pub header : 2 ≤ b
   pub within : b ≤ length (b ∷ bytes)
@@ -98,7 +98,7 @@ config_is d w kind = config_is_at d w kind (long_as d w 2 kind)
 pub size_is : (n : ℕ) (c : ConfigTree) → length (written n c) ≡ size_of c
 size_is n c = omega (arith, length-append c.tail (parts c))
 
--- the first descriptor of a configuration, and what is behind it
+-- the first descriptor of a configuration, and what follows it
 pub record IsStart (bytes rest : List ℕ) (tree : ConfigTree) : Type 0 where
   pub seam : written (length bytes) tree ++ rest ≡ bytes
   pub sound : IsSound tree

@@ -10,7 +10,7 @@ on_last_push f [] x = refl
 on_last_push f (a ∷ []) x = refl
 on_last_push f (a ∷ b ∷ xs) x = ap (λ ys. a ∷ ys) (on_last_push f (b ∷ xs) x)
 
--- an extra behind the endpoints of a setting, or behind a setting without
+-- an extra after the endpoints of a setting, or after a setting without
 pub alt_extended_none : (d : List ℕ) (a : Alt) → a.ends ≡ [] → alt_extended d a ≡ record a { extras = a.extras ++ d }
 alt_extended_none d a e = ap (extended_alt d a) e
 

@@ -1,4 +1,4 @@
--- A descriptor that is added stands behind all others.
+-- A descriptor that is added stands after all others.
 use Rattle.std.proofs.Common.{◌≡◌, ℕ, ◌+◌, ◌<◌, ◌≤◌, Bool, true, false, List, [], ◌∷◌, ◌++◌, length, get_or, sym, ap, subst, ◌∙◌, append_assoc, arith}
 use Rattle.std.specs.List.{AllByRecursion, flat_map}
 use Rattle.std.proofs.lemmas.List.{append-nil}
@@ -47,7 +47,7 @@ alt_is_at _ w kind long = absurd (omega arith)
 pub alt_is : (d : List ℕ) → IsWhole d → kind_of d ≡ 4 → alt_bytes (alt_of d) ≡ d
 alt_is d w kind = alt_is_at d w kind (long_as d w 4 kind)
 
--- a change of the last item that puts d behind what it makes puts d behind all
+-- a change of the last item that puts d after what it makes puts d after all
 pub grown_last : {X : Type 0} (g : X → List ℕ) (f : X → X) (d : List ℕ) → ((x : X) → g (f x) ≡ g x ++ d) → (x : X) (xs : List X)
     → flat_map g (on_last f (x ∷ xs)) ≡ flat_map g (x ∷ xs) ++ d
 grown_last g f d more x [] = append-nil (g (f x)) ∙ more x ∙ ap (λ (ys : List ℕ). ys ++ d) (sym (append-nil (g x)))
@@ -88,14 +88,14 @@ tree_more_at n d c (a ∷ alts) =
 pub tree_more : (n : ℕ) (d : List ℕ) (c : ConfigTree) → written n (extended d c) ≡ written n c ++ d
 tree_more n d c = tree_more_at n d c c.alts
 
--- a setting behind the others
+-- a setting after the others
 pub alt_added : (n : ℕ) (c : ConfigTree) (a : Alt) → written n (record c { alts = c.alts ++ a ∷ [] }) ≡ written n c ++ alt_bytes a
 alt_added n c a =
     ap (tree_head n c) (ap (λ (ys : List ℕ). c.tail ++ (c.extras ++ ys)) (flat_map-append alt_bytes c.alts (a ∷ []) ∙ ap (λ (ys : List ℕ). flat_map alt_bytes c.alts ++ ys) (append-nil (alt_bytes a)))
     ∙ ap (λ (ys : List ℕ). c.tail ++ ys) (sym (append_assoc c.extras (flat_map alt_bytes c.alts) (alt_bytes a)))
     ∙ sym (append_assoc c.tail (c.extras ++ flat_map alt_bytes c.alts) (alt_bytes a)))
 
--- an endpoint behind the others of its setting
+-- an endpoint after the others of its setting
 pub end_added : (e : End) (a : Alt) → alt_bytes (with_end e a) ≡ alt_bytes a ++ end_bytes e
 end_added e a =
     ap (alt_head a) (ap (λ (ys : List ℕ). (a.tail ++ a.extras) ++ ys) (flat_map-append end_bytes a.ends (e ∷ []) ∙ ap (λ (ys : List ℕ). flat_map end_bytes a.ends ++ ys) (append-nil (end_bytes e)))

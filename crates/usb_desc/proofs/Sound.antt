@@ -95,7 +95,7 @@ is_free : (last : Option Alt) (at address : ℕ) → end_fault last at address �
 is_free None at address e = absurd cc
 is_free (Some a) at address e = free_at at address a (has_end a.ends address) (ltb (length a.ends) 30) refl refl e
 
--- what was added keeps what was good, and stands behind the rest
+-- what was added keeps what was good, and stands after the rest
 pub record IsKept (old new : ConfigTree) (d : List ℕ) : Type 0 where
   pub sound : IsSound old → IsSound new
   pub behind : (n : ℕ) → written n new ≡ written n old ++ d

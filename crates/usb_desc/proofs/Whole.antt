@@ -72,7 +72,7 @@ each_middle : {X : Type 0} (P : X → Type 0) (xs : List X) (x : X) (ys : List X
 each_middle P [] x ys h = h.0
 each_middle P (z ∷ xs) x ys h = each_middle P xs x ys h.1
 
--- an address that stands once is new behind those before it
+-- an address that stands once is new after those before it
 is_new : (ends : List End) (e : End) (others : List End) → AreDistinct (ends ++ e ∷ others) → has_end ends e.address ≡ false
 is_new [] e others h = refl
 is_new (f ∷ ends) e others h =
@@ -148,7 +148,7 @@ same_at : (a b : ℕ) (t : Bool) → eqb a b ≡ t → a ≡ b → t ≡ true
 same_at a b true e s = refl
 same_at a b false e s = absurd (eqb-false a b e s)
 
--- behind what a sound configuration is spelled with, the reading goes on from it
+-- after what a sound configuration is spelled with, the reading goes on from it
 pub tree_read : (n : ℕ) (c : ConfigTree) (rest : List ℕ) → IsSound c → length (written n c ++ rest) ≡ n → tree_of (written n c ++ rest) ≡ read_on n c 0 rest
 tree_read n c rest sound size =
     let total = length (written n c ++ rest) in

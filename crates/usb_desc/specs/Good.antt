@@ -18,7 +18,7 @@ pub record IsExtra (d : List ℕ) : Type 0 where
   pub no_interface : slice_index d 1 ≢ 4
   pub no_endpoint : slice_index d 1 ≢ 5
 
--- such descriptors, one behind the other
+-- such descriptors, one after the other
 pub record AreExtras (bytes : List ℕ) : Type 0 where
   pub pieces : List (List ℕ)
   pub joined : concat pieces ≡ bytes

@@ -11,7 +11,7 @@ abbrev pub unless : {X : Type 0} → X → Option DescFault → Result X DescFau
 unless x None = Ok x
 unless x (Some fault) = Err fault
 
--- a fault ends the reading, and behind a good part it goes on
+-- a fault ends the reading, and after a good part it goes on
 abbrev pub then_on : {X Y : Type 0} → (X → Result Y DescFault) → Result X DescFault → Result Y DescFault
 then_on others (Ok x) = others x
 then_on others (Err fault) = Err fault

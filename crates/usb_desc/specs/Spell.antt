@@ -21,7 +21,7 @@ alt_bytes a =
     (9 + length a.tail) ∷ 4 ∷ a.number ∷ a.setting ∷ a.said ∷ a.class ∷ a.subclass ∷ a.protocol ∷ a.text ∷ a.tail ++ a.extras
     ++ flat_map end_bytes a.ends
 
--- what stands behind the configuration's own descriptor
+-- what stands after the configuration's own descriptor
 abbrev pub parts : ConfigTree → List ℕ
 parts c = c.extras ++ flat_map alt_bytes c.alts
 

@@ -3,7 +3,7 @@
 /// The first fault from left to right, most with the place of the descriptor that has it, or want of memory.
 #[derive(Clone, Copy, Debug, PartialEq)]
 pub enum DescFault {
-    /// Fewer bytes are left than a length and a type, or than the length says. In the first descriptor it tells
+    /// Fewer bytes are left than a length and a type, or than the length says. In the first descriptor it says
     /// the number of bytes.
     Short(usize),
     /// The length is below that of the type. A device has 18 bytes, and what follows them is at 18.

@@ -17,7 +17,7 @@ const MAX_ALTS: usize = 64;
 /// How many endpoints a setting may have.
 const MAX_ENDS: usize = 30;
 
-/// What a descriptor has behind its first bytes.
+/// What a descriptor has after its first bytes.
 pub fn tail_of(alloc: Global, piece: &[u8], standard: usize) -> Result<Buf, Memory>
     requires { standard ≤ length piece.now }
     ensures { IfOk result (λ tail. tail ≡ drop standard piece.now) }

@@ -25,12 +25,12 @@ pub fn a_spelling_is_of_one_tree()
     ensures { (a b : ConfigTree) → IsGood a → IsGood b → spell a ≡ spell b → a ≡ b }
 {}
 
-/// Before the fault that is told there is none.
+/// Before the fault that is reported there is none.
 pub fn reports_first_fault()
     ensures { (bytes : List ℕ) (fault : DescFault) → AllByRecursion IsByte bytes → first_fault bytes ≡ Some fault → IsFirstFault bytes fault }
 {}
 
-/// A fault before which there is none is told.
+/// A fault before which there is none is reported.
 pub fn first_fault_is_told()
     ensures { (bytes : List ℕ) (fault : DescFault) → IsFirstFault bytes fault → first_fault bytes ≡ Some fault }
 {}

@@ -93,7 +93,7 @@ module _ (script : DeviceScript) (calls : List Call) where
       (used_acked script calls old new 0 next stands.acked uses)
       word
 
-  -- what comes at 00, with this reply behind the last item
+  -- what comes at 00, with this reply after the last item
   comes_00 : (old new : Scripted) (next : Option (Bor What)) → Stands old script calls → Uses old new 0 next → (last : Reply) → next_or last next ≡ reply_at last (items_at 0 script.answers) (used_00 script calls calls)
   comes_00 old new next stands uses last = uses.item last ∙ coming_first uses.end.place 0 (items_at 0 script.answers) (used_00 script calls calls) (stands.placed.places 0 uses.end uses.there) last
 

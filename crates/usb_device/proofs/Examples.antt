@@ -38,7 +38,7 @@ first_bytes = refl
 all_bytes : reply_to keyboard (take 2 enumeration) (asks 0x80 6 0x0100 0 18) ≡ Packet default_desc
 all_bytes = refl
 
--- a configuration is set behind an address, and not before
+-- a configuration is set after an address, and not before
 too_early : reply_to keyboard [] (asks 0x00 9 1 0 0) ≡ Stall
 unfolding first_state
 too_early = refl

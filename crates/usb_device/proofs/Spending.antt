@@ -49,7 +49,7 @@ uses_left : (old new : Scripted) (a : ℕ) (next : Option (Bor What)) → Uses o
 uses_left old new a (Some what) uses = omega (arith, uses.left)
 uses_left old new a None uses = uses.left
 
--- what is said behind the last item needs none
+-- what is said after the last item needs none
 last_unspent : (a : ℕ) → is_spent a (last_at a) ≢ true
 last_unspent a = go (eqb a 0) (goes_in a) refl
   where

@@ -21,7 +21,7 @@ use Rattle.usb_device.proofs.Calls.{questions-snoc_elsewhere, used-snoc_elsewher
 pub after_same : (p : Place) (a : ℕ) (items : List Item) (n m : ℕ) → n ≡ m → IsAfter p a items n → IsAfter p a items m
 after_same p a items n m e is = subst (IsAfter p a items) e is
 
--- the place behind one item more
+-- the place after one item more
 after_next : (p q : Place) (a : ℕ) (items : List Item) (n : ℕ) → ((last : Reply) (k : ℕ) → coming last q a k ≡ coming last p a (k + 1)) → IsAfter p a items n → IsAfter q a items (n + 1)
 after_next p q a items n on is = record {
   next = λ last k. let more : n + (k + 1) ≡ n + 1 + k = omega arith in on last k ∙ (is.next last (k + 1) ∙ ap (reply_at last items) more);

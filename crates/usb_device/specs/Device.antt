@@ -1,4 +1,4 @@
--- What a scripted device replies to a call, behind the calls that it heard before.
+-- What a scripted device replies to a call, after the calls that it heard before.
 use Rattle.std.specs.Prelude.{ℕ, ◌≡◌, ◌+◌, ◌-◌, Bool, true, false, not, ◌&&◌, ◌==◌, nat_lt, if◌then◌else◌, List, [], ◌∷◌, ◌++◌, length, map, slice_get, Some}
 use Rattle.std.specs.List.{filter}
 use Rattle.usb_xfer.specs.Replies.{Reply, Question, Fetch, Send, Ask, acked_by}
@@ -42,19 +42,19 @@ abbrev pub by_item : Reply → DeviceScript → DeviceState → Question → Rul
 by_item Ack script state question = ruled script state question
 by_item reply script state question = record { reply = reply; state = state }
 
--- the reply at 00 to the call that n came before, and the state behind it; a raw device has items alone
+-- the reply at 00 to the call that n came before, and the state after it; a raw device has items alone
 abbrev pub at_00 : DeviceScript → DeviceState → ℕ → Question → Ruled
 at_00 script state n question =
     if is_raw script.kind
     then record { reply = reply_of (script_at script 0) n; state = state }
     else by_item (said_at_00 script n) script state question
 
--- the state behind these questions at 00, which n others came before
+-- the state after these questions at 00, which n others came before
 abbrev pub state_from : DeviceScript → DeviceState → ℕ → List Question → DeviceState
 state_from script state n [] = state
 state_from script state n (question ∷ questions) = state_from script (at_00 script state n question).state (n + 1) questions
 
--- the state behind these calls
+-- the state after these calls
 abbrev pub state_after : DeviceScript → List Call → DeviceState
 state_after script calls = state_from script first_state 0 (questions_at 0 calls)
 
@@ -75,7 +75,7 @@ end_reply script calls address =
     then Stall
     else reply_of (script_at script address) (used_at script calls address)
 
--- the reply to a call behind these calls
+-- the reply to a call after these calls
 abbrev pub reply_to : DeviceScript → List Call → Call → Reply
 reply_to script calls c =
     if c.address == 0
@@ -99,7 +99,7 @@ items_used script calls address =
     then (if is_raw script.kind then length (questions_at 0 calls) else length (questions_at 0 calls) - 6)
     else used_at script calls address
 
--- the object's places are behind the items that were used, and of the six control transfers without items it knows how many are left
+-- the object's places are after the items that were used, and of the six control transfers without items it knows how many are left
 pub record ArePlaced (d : Scripted) (script : DeviceScript) (calls : List Call) : Type 0 where
   pub free : d.free ≡ (if is_raw script.kind then 0 else 6 - length (questions_at 0 calls))
   pub places : (a : ℕ) (end : ScriptedEnd) → slice_get d.ends.items a ≡ Some end → IsAfter end.place a (items_at a script.answers) (items_used script calls a)

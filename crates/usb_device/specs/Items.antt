@@ -7,7 +7,7 @@ use Rattle.usb_xfer.specs.declared.script.Item.{Item}
 use Rattle.usb_xfer.specs.declared.script.Answers.{Answers}
 use Rattle.usb_xfer.specs.declared.script.DeviceScript.{DeviceScript}
 
--- the items of an address, and the reply behind the last of them
+-- the items of an address, and the reply after the last of them
 pub record Script : Type 0 where
   pub items : List Item
   pub last : Reply
@@ -25,7 +25,7 @@ abbrev pub items_at : ℕ → List Answers → List Item
 items_at address [] = []
 items_at address (said ∷ others) = (if said.address == address then said.items else []) ++ items_at address others
 
--- the reply behind the last item of an address: 00 has no answer, an IN endpoint nothing to send, and an OUT endpoint takes what comes
+-- the reply after the last item of an address: 00 has no answer, an IN endpoint nothing to send, and an OUT endpoint takes what comes
 abbrev pub last_at : ℕ → Reply
 last_at address = if address == 0 then Stall else if goes_in address then Nak else Ack
 

@@ -17,7 +17,7 @@ times_of items = sum_by (λ (item : Item). item.times) items
 abbrev pub lines_times : List Answers → ℕ
 lines_times lines = sum_by (λ (said : Answers). times_of said.items) lines
 
--- how many more calls the items behind a place are for, at most: some lines may be those of another address
+-- how many more calls the items after a place are for, at most: some lines may be those of another address
 abbrev pub place_left : Place → ℕ
 place_left place = (times_of place.items.now - place.used) + lines_times place.lines.now
 

@@ -11,11 +11,11 @@ use Rattle.usb_device.specs.Items.{reply_at, items_at}
 abbrev pub left_of : Place → ℕ → List Item
 left_of place address = place.items.now ++ items_at address place.lines.now
 
--- the reply to the call that n more calls come before, with this one behind the last item
+-- the reply to the call that n more calls come before, with this one after the last item
 abbrev pub coming : Reply → Place → ℕ → ℕ → Reply
 coming last place address n = reply_at last (left_of place address) (place.used + n)
 
--- what an item says, or else the reply behind the last one
+-- what an item says, or else the reply after the last one
 abbrev pub next_or : Reply → Option (Bor What) → Reply
 next_or last (Some what) = what.now
 next_or last None = last

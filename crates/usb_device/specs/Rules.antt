@@ -75,7 +75,7 @@ class_given Printer script state s =
 abbrev pub with_address : DeviceState → ℕ → Option DeviceState
 with_address state value = if state.configuration == 0 then Some (record state { address = low value }) else None
 
--- a configuration is set behind an address: none, or the one that there is
+-- a configuration is set after an address: none, or the one that there is
 abbrev pub with_configuration : DeviceScript → DeviceState → ℕ → Option DeviceState
 with_configuration script state value =
     if state.address == 0 then None
@@ -113,11 +113,11 @@ class_taken Printer state s out =
 abbrev pub given : DeviceScript → DeviceState → Setup → Option (List ℕ)
 given script state s = if s.kind == 0xA1 then class_given script.kind script state s else standard_given script state s
 
--- a request of bmRequestType 21 tells a class, and each other one the device
+-- a request of bmRequestType 21 is made to a class, and each other one to the device
 abbrev pub taken : DeviceScript → DeviceState → Setup → List ℕ → Option DeviceState
 taken script state s out = if s.kind == 0x21 then class_taken script.kind state s out else standard_taken script state s
 
--- a reply, and the state behind it
+-- a reply, and the state after it
 pub record Ruled : Type 0 where
   pub reply : Reply
   pub state : DeviceState

@@ -1,4 +1,4 @@
-//! What the replies of a device come to.
+//! What the replies of a device mean together.
 ghost use Rattle.std.specs.Prelude.{ℕ, ◌≡◌, ◌≢◌, ◌<◌, ◌≤◌, ◌∷◌, ◌++◌, [], true, false, List, length};
 ghost use Rattle.usb_ctrl.specs.declared.setup.Setup.{Setup};
 ghost use Rattle.usb_xfer.specs.Replies.{Ask};
@@ -33,7 +33,7 @@ pub fn an_enumeration_uses_no_item()
         → reply_to script calls (call_of 0 (Ask setup out)) ≡ (control_rule script (state_after script calls) setup out).reply }
 {}
 
-/// The rules give no more than is wanted.
+/// The rules of a kind give no more than is wanted. An item's packet may be longer, and then ends its transfer with EOVERFLOW.
 pub fn no_more_is_given_than_is_wanted()
     ensures { (script : DeviceScript) (state : DeviceState) (setup : Setup) (out bytes : List ℕ) → (control_rule script state setup out).reply ≡ Packet bytes → length bytes ≤ setup.length }
 {}

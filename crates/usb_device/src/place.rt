@@ -11,7 +11,7 @@ fn one_more(used: u32, times: u32) -> Option<u32>
     if used < times { Some(used + 1) } else { None }
 }
 
-/// How far the items of an address are used: the items that are left of a line, and the lines behind it.
+/// How far the items of an address are used: the items that are left of a line, and the lines after it.
 #[derive(Drop)]
 pub struct Place<'a> {
     lines: &'a [Answers],

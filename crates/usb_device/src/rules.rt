@@ -123,7 +123,7 @@ impl DeviceState {
         true
     }
 
-    // Takes a configuration, behind an address.
+    // Takes a configuration, after an address.
     fn set_configuration(&mut self, script: &DeviceScript, value: u16) -> bool
         ensures { Took (with_configuration script.now self.old value) self.old self.new result }
     {

@@ -18,13 +18,13 @@ use usb_xfer::{InReply, OutReply, What, is_in};
 pub enum Said<'a> {
     /// What an item says.
     Item(&'a What),
-    /// The reply at a halt, or behind the last item.
+    /// The reply at a halt, or after the last item.
     Other(What),
     /// The reply is left to the rules.
     Rules,
 }
 
-// What an address replies behind its last item.
+// What an address replies after its last item.
 fn last(address: u8) -> What
     ensures { result ≡ last_at address }
 {
@@ -38,7 +38,7 @@ fn last(address: u8) -> What
 }
 
 impl<'a> Said<'a> {
-    /// An item, or what comes behind the last one.
+    /// An item, or what comes after the last one.
     pub fn or_last(next: Option<&'a What>, address: u8) -> Said<'a>
         requires { is_short (next_or what.Nak next) ≡ true }
         ensures word { (script : DeviceScript) (state : DeviceState) (question : Question) → word_of result script state question ≡ record { reply = next_or (last_at address) next.entry; state = state } }
@@ -50,7 +50,7 @@ impl<'a> Said<'a> {
         }
     }
 
-    /// An item, or the rules at an `Ack` and behind the last one.
+    /// An item, or the rules at an `Ack` and after the last one.
     pub fn or_rules(next: Option<&'a What>) -> Said<'a>
         requires { is_short (next_or what.Nak next) ≡ true }
         ensures word { (script : DeviceScript) (state : DeviceState) (question : Question) → word_of result script state question ≡ by_item (next_or what.Ack next.entry) script state question }

@@ -1,3 +1,4 @@
+//! What control transfers leave in a device.
 ghost use Rattle.std.specs.Prelude.{◌≡◌, ◌<◌, slice_set, slice_index_or, false};
 ghost use Rattle.usb_device.specs.Rules.{first_state};
 

@@ -17,7 +17,7 @@ eqb-sym a b = go (a == b) refl (b == a) refl
     go true e false f = let g : (b == a) ≡ true = eq-eqb b a (sym (eqb-true a b e)) in cc
     go false e true f = let g : (a == b) ≡ true = eq-eqb a b (sym (eqb-true b a f)) in cc
 
--- a code behind others counts where they lack it
+-- a code after others counts where they lack it
 last_counts : (code first : ℕ) (behind : Bool)
     → filter (λ d. not (d == first)) (cond behind [] (code ∷ [])) ≡ cond ((first == code) || behind) [] (code ∷ [])
 last_counts code first true = go (first == code)

@@ -9,7 +9,7 @@ use Rattle.usb_hid.specs.declared.event.Event.{Event}
 use Rattle.usb_hid.specs.Reports.{modifier_bits, modifier_key, is_set}
 use Rattle.usb_hid.specs.Changes.{turned, modifier_changes}
 
--- what the bits below n tell
+-- what the bits below n say
 unfoldable pub changes_below : ℕ → ℕ → ℕ → List Event
 changes_below n old new = map (λ b. turned (is_set new b) (modifier_key b)) (filter (λ b. not (bit_at old b == bit_at new b)) (take n modifier_bits))
 

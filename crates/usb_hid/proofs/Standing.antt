@@ -74,7 +74,7 @@ stands_more old new done c s n = record {
       ∙ sym (key_events-snoc done c);
 }
 
--- what grew behind grown events grew behind the first ones
+-- what grew after grown events grew after the first ones
 pub grown_more : {T E : Type 0} (r : Result T E) (first before now more : List Event) → before ≡ first ++ more → OnErr r (Grown before now) → OnErr r (Grown first now)
 grown_more (Ok x) first before now more e h = h
 grown_more (Err x) first before now more e h = (more ++ h.0, h.1 ∙ ap (λ (es : List Event). es ++ h.0) e ∙ append_assoc first more h.0)

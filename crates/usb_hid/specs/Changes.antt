@@ -27,6 +27,6 @@ abbrev pub code_changes : List ℕ → List ℕ → List Event
 code_changes old new =
     if is_roll_over new then [] else map Up (keys_lost old new) ++ map Down (keys_lost new old)
 
--- events were added behind the old ones
+-- events were added after the old ones
 abbrev pub Grown : List Event → List Event → Type 0
 Grown old new = (more : List Event) × (new ≡ old ++ more)

@@ -41,7 +41,7 @@ modifiers_after done = last_of 0 (map modifiers_of (reports done))
 unfoldable pub codes_after : List Completion → List ℕ
 codes_after done = last_of (replicate 6 0) (filter (λ codes. not (is_roll_over codes)) (map codes_of (reports done)))
 
--- a report tells what changed since the modifiers and the codes that stood
+-- a report says what changed since the modifiers and the codes that stood
 abbrev pub report_events : ℕ → List ℕ → Option (List ℕ) → List Event
 report_events modifiers codes None = []
 report_events modifiers codes (Some report) =
@@ -52,7 +52,7 @@ abbrev pub light_events : Role → Code → List ℕ → List Event
 light_events Ctl Zero (lights ∷ rest) = Led lights ∷ []
 light_events role status moved = []
 
--- the events of one completion, which came behind all these
+-- the events of one completion, which came after all these
 abbrev pub events_of : List Completion → Completion → List Event
 events_of before c =
     report_events (modifiers_after before) (codes_after before) (report_in c.role c.status c.moved) ++ light_events c.role c.status c.moved

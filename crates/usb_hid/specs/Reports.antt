@@ -9,7 +9,7 @@ modifiers_of report = slice_index report 0
 abbrev pub codes_of : List ℕ → List ℕ
 codes_of report = drop 2 report
 
--- more keys are down than codes can tell: each code is 01 (HID 1.11, appendix C)
+-- more keys are down than codes can name: each code is 01 (HID 1.11, appendix C)
 abbrev pub is_roll_over : List ℕ → Bool
 is_roll_over codes = list_all (λ c. c == 1) codes
 

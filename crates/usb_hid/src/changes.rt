@@ -1,4 +1,4 @@
-//! What changed from one report to the next, as events behind those so far.
+//! What changed from one report to the next, as events after those so far.
 ghost use Rattle.std.specs.Prelude.{◌≡◌, ◌++◌, ◌<◌, ◌&&◌, ◌∷◌, [], ℕ, not, if◌then◌else◌, length, map, take, slice_index, OnOk, OnErr};
 ghost use Rattle.std.specs.Int.{bit_at};
 ghost use Rattle.usb_hid.specs.Reports.{is_roll_over as is_roll_over_of, is_key, has};
@@ -9,7 +9,7 @@ use std::alloc::AllocError;
 
 /// The usage of the lowest bit's modifier, the left control key; the others follow (HID usage tables, page 07).
 const LEFT_CONTROL: u8 = 0xE0;
-/// The code that fills a report when more keys are down than it can tell (HID usage tables, page 07).
+/// The code that fills a report when more keys are down than it can name (HID usage tables, page 07).
 const ERROR_ROLL_OVER: u8 = 0x01;
 /// The last of the codes that are no key's (HID usage tables, page 07).
 const ERROR_UNDEFINED: u8 = 0x03;
@@ -39,7 +39,7 @@ pub(crate) fn push_modifiers(events: &mut Vec<Event>, old: u8, new: u8) -> Resul
     Ok(())
 }
 
-/// Whether the codes tell no keys, since too many are down (HID 1.11, appendix C).
+/// Whether the codes name no keys, since too many are down (HID 1.11, appendix C).
 pub(crate) fn is_roll_over(codes: &[u8]) -> bool
     ensures { result ≡ is_roll_over_of codes.now }
 {

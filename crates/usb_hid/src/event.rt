@@ -1,3 +1,5 @@
+//! The events of a keyboard.
+
 /// What happened at a keyboard.
 #[derive(Clone, Copy)]
 pub enum Event {

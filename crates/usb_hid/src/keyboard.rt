@@ -1,3 +1,4 @@
+//! The core of a boot keyboard's driver: what its completions mean, and what its transfers do next.
 ghost use Rattle.std.specs.Prelude.{◌≡◌, ◌++◌, ◌∷◌, [], ◌<◌, ◌^◌, List, length, OnOk, OnErr, IfOk};
 ghost use Rattle.usb_hid.specs.Keyboard.{action_of};
 

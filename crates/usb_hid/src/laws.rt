@@ -6,12 +6,12 @@ ghost use Rattle.usb_hid.specs.Reports.{has};
 ghost use Rattle.usb_hid.specs.Keys.{Completion, key_events, events_behind};
 ghost use Rattle.usb_hid.specs.Down.{is_down, keys_after, has_modifier_code};
 
-/// What was told stays told: completions that follow add events behind those so far.
+/// What was reported stays reported: completions that follow add events after those so far.
 pub fn events_only_grow()
     ensures { (before after : List Completion) → key_events (before ++ after) ≡ key_events before ++ events_behind before after }
 {}
 
-/// At every moment the keys that are down by the events are those that stand in the reports: the modifiers of the last
+/// Replaying the events leaves down exactly the keys of the reports: the modifiers of the last
 /// one, and the codes of the last one that was no roll-over.
 pub fn the_keys_down_are_those_that_stand()
     ensures { (done : List Completion) (key : ℕ) → has_modifier_code key done ≡ false → is_down key (key_events done) ≡ has (keys_after done) key }

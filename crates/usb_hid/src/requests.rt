@@ -1,3 +1,4 @@
+//! The request that sets a keyboard's lights (HID 1.11 §7.2.2).
 ghost use Rattle.std.specs.Prelude.{◌≡◌, [], ◌∷◌};
 ghost use Rattle.usb_ctrl.specs.Setup.{setup_of};
 ghost use Rattle.usb_hid.specs.Requests.{set_report};

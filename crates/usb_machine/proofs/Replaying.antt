@@ -61,7 +61,7 @@ entries-snoc g (t ∷ steps) [] cs s a c l k = absurd (omega arith)
 entries-snoc g (t ∷ steps) (b ∷ answers) [] s a c l k = absurd k
 entries-snoc g (t ∷ steps) (b ∷ answers) (d ∷ cs) s a c l k = ap (λ h. record { pass = t.pass; event = t.event; answer = b; carried = d } ∷ h) (entries-snoc g steps answers cs s a c (omega arith) k.1)
 
--- an entry of a history, between what is before it and what is behind it
+-- an entry of a history, between what is before it and what follows it
 at_index : (h : List Entry) (i : ℕ) → i < length h → (x : Entry) × (h ≡ take i h ++ x ∷ drop (suc i) h) × (take (i + 1) h ≡ take i h ++ x ∷ [])
 at_index [] i l = absurd (omega arith)
 at_index (y ∷ h) zero l = (y, refl, refl)

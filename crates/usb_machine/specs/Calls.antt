@@ -20,7 +20,7 @@ entry p e a t = record { pass = p; event = e; answer = a; carried = t }
 abbrev pub plain_entry : ℕ → Event → Entry
 plain_entry p e = entry p e Nothing None
 
--- submit: it asks the gate, and links where it was accepted (the kernel's `usb_submit_urb`)
+-- submit: it asks the URB's gate, which accepts or refuses it, and links where it was accepted (the kernel's `usb_submit_urb`)
 abbrev pub submit_entries : ℕ → ℕ → Transfer → Code → List Entry
 submit_entries p u t a =
     entry p (Submit record { 0 = u } t.number) (Status a) (Some t) ∷ (if is_zero a then plain_entry p (Link record { 0 = u }) ∷ [] else [])

@@ -102,7 +102,7 @@ pub record Episode : Type 0 where
   pub status : Answer
   pub transfer : Option Transfer
 
--- the episode that an entry behind this history ends: that of a Give, with what was sent last
+-- the episode that an entry after this history ends: that of a Give, with what was sent last
 abbrev pub ended_by : List Entry → Event → Answer → List Episode
 ended_by before (Give u) a = record { urb = u.0; status = a; transfer = sent_of before u.0 } ∷ []
 ended_by before _ a = []

@@ -1,13 +1,14 @@
+//! The events of the URB machine, and their answers.
 use usb_types::{Code, Flag, UrbId, Why};
 
 /// What happens to an URB, or to an endpoint's line, in one moment. A pass makes it.
 #[derive(Clone, Copy)]
 pub enum Event {
-    /// Asks the gate of the URB for a transfer with this number.
+    /// Asks the gate of the URB, which accepts or refuses submits, for a transfer with this number.
     Submit { urb: UrbId, number: u64 },
     /// Puts the URB last in the line of its endpoint.
     Link { urb: UrbId },
-    /// Moves the first URB of the endpoint's line behind its pending ones.
+    /// Moves the first URB of the endpoint's line after its pending ones.
     Take { ep: u32 },
     /// Marks the URB as unlinked.
     Mark { urb: UrbId, why: Why },

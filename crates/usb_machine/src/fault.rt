@@ -1,3 +1,4 @@
+//! Why an endpoint refuses a transfer by its shape.
 ghost use Rattle.std.specs.Prelude.{◌≡◌, Option};
 ghost use Rattle.usb_machine.specs.Shapes.{shape_fault as fault_of, setup_fault as fault_of_setup};
 

@@ -1,3 +1,4 @@
+//! The shapes of endpoints, and the home of each URB.
 use usb_types::List;
 
 /// The transfer type of an endpoint (USB 2.0 §9.6.6, bits 0 and 1 of `bmAttributes`).

@@ -1,3 +1,4 @@
+//! The machine as an object, which takes one event after another.
 ghost use Rattle.std.specs.Prelude.{◌≡◌, ℕ, ◌<◌, ◌≤◌, ◌+◌, ◌^◌, ◌++◌, ◌∷◌, [], List, Option, Some, None, length, All, IfOk, IfSome, IsTrue, false, not, ◌↔◌, replicate, ◌*◌, slice_index_or, slice_get, slice_set};
 
 use crate::change::{answered, changed, has_flag, is_marked, is_quiet};
@@ -35,7 +36,7 @@ impl Plain {
     ghost use Rattle.usb_machine.specs.Rows.{no_row};
     ghost use Rattle.usb_machine.specs.Plain.{IsLayout, IsOfUrb, CanCount, NotesRow, IsInside, HasRoom, Fits, IsNext, Stands, urbs_of, ends_of};
 
-    /// The machine at first: nothing was made, and nothing stands. Passes 0 and 1 are the server's and the hub's, and
+    /// The opening state: empty history, nothing queued. Passes 0 and 1 are the server's and the hub's, and
     /// `passes` more follow from 2.
     pub fn new(alloc: Global, layout: &Layout, passes: u32) -> Result<Plain, Memory>
         requires passes { (0 < passes) × (passes ≤ 64) }

@@ -1,3 +1,4 @@
+//! An endpoint's line and its pending URBs.
 ghost use Rattle.std.specs.Prelude.{◌≡◌, ℕ, ◌<◌, ◌^◌, length, map, All, IfOk, IsTrue, ◌↔◌, Contains, slice_get, Some};
 ghost use Rattle.usb_machine.specs.State.{first_of};
 ghost use Rattle.usb_machine.specs.Legal.{IsFirst};
@@ -50,7 +51,7 @@ impl Queues {
         self.line.push_back(urb);
     }
 
-    /// Moves the first URB of the line behind the pending ones.
+    /// Moves the first URB of the line after the pending ones.
     pub(crate) fn take(&mut self) -> Answer
         ensures answer { result ≡ first_of self.old.line.items }
         ensures moved { length self.old.pending.items < self.old.pending.capacity → self.new ≡ moved result self.old }

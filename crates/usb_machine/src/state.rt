@@ -1,3 +1,4 @@
+//! The state of an URB.
 ghost use Rattle.std.specs.Prelude.{◌≡◌};
 ghost use Rattle.usb_machine.specs.State.{opening, no_flags as none};
 

@@ -1,3 +1,4 @@
+//! A transfer: a buffer, its window, and how much of it was moved.
 use usb_types::Buf;
 
 /// A buffer on its way. Its window is `buf[from .. from + len]`, of which the first `actual` bytes were moved.

@@ -89,7 +89,7 @@ module _ (old new : Scripted) (driver : Driver) (i : ℕ) where
   pub printer_asked : (b : Bool) → driver ≡ Printer → Asks old (id_request i) b new → AsksEach old (requests_of driver i) b new
   printer_asked b is asked = subst (λ d. AsksEach old (requests_of d i) b new) (sym is) (one_asked old new (id_request i) b asked)
 
--- the id that a driver is told
+-- the id that a driver is given
 none_taken : (room : List ℕ) → take 0 room ≡ []
 none_taken [] = refl
 none_taken (x ∷ room) = refl

@@ -1,4 +1,4 @@
--- What holds of the board and the pool all along the probes: the scene's own URBs are out with their homes, and behind
+-- What holds of the board and the pool all along the probes: the scene's own URBs are out with their homes, and after
 -- them those of the bindings, each with the endpoint of its role.
 use Rattle.std.proofs.Common.{ℕ, zero, suc, ◌≡◌, ◌+◌, ◌-◌, ◌<◌, ◌≤◌, ◌⊎◌, inl, inr, ⊎_elim, Bool, true, false, cond, Option, Some, None, Result, Ok, Err, List, [], ◌∷◌, ◌++◌, length, map, refl, sym, ap, ◌∙◌, subst, arith, append_assoc, append-nil, length-append, add-zero}
 use Rattle.std.specs.Prelude.{slice_get, slice_index, option_map}
@@ -43,7 +43,7 @@ own_homes s = map (λ (u : SceneUrb). or_zero (home_at s u)) s.urbs
 abbrev HasUrb : List Bound → ℕ → ℕ → UrbId → Type 0
 HasUrb bindings i k u = (b : Bound) × (slice_get bindings i ≡ Some b) × (slice_get b.urbs k ≡ Some (Some u))
 
--- where a place behind a device's first endpoint is
+-- where a place after a device's first endpoint is
 abbrev pub behind_first : ℕ → Option ℕ → ℕ
 behind_first first place = option_map_or (λ p. first + 1 + p) place first
 

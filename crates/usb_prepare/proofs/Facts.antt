@@ -356,7 +356,7 @@ module _ (s : Scene) (good : IsWellFormed s) where
   pub raw_asked : (e : ℕ) → is_raw_at s (shape_at s e).device ≡ true → asked_at (shape_at s e) ≡ (shape_at s e).address
   raw_asked e raw = asked_at_home s good e raw
 
-  -- the URBs of drivers stand behind the scene's own, and no two roles have one
+  -- the URBs of drivers stand after the scene's own, and no two roles have one
   is_role : (d interface u : ℕ) (role : Role) → role_urb s d interface role ≡ Some u → IsRole (bindings_of s) d interface u role
   unfolding role_urb
   is_role d interface u role e = of_role (bindings_of s) d interface u role e
@@ -406,7 +406,7 @@ module _ (s : Scene) (good : IsWellFormed s) where
       let late = ctl_last b.driver y.0 y.2 in
       known.rise i x.0 y.0 u v (b, at, x.1) (b, at, y.1) (omega arith)
 
-  -- a binding's URBs stand behind the scene's own
+  -- a binding's URBs stand after the scene's own
   pub bound_near : (i : ℕ) (b : Bound) (role : Role) (u : UrbId) → slice_get (bindings_of s) i ≡ Some b → urb_of_role b role ≡ Some u → (length s.urbs ≤ u.0) × (u.0 < urb_count s)
   unfolding IsSlot
   bound_near i b role u at has =
@@ -419,7 +419,7 @@ module _ (s : Scene) (good : IsWellFormed s) where
   pub bindings_few : length (bindings_of s) ≤ 256
   bindings_few = let count = known.count in let all = known.all in omega arith
 
-  -- each was told an id, of at most the 1,023 bytes that are asked for
+  -- each was given an id, of at most the 1,023 bytes that are asked for
   pub ids_few : length (ids_of s) ≡ length (bindings_of s)
   ids_few = (told s good).count
 

@@ -6,7 +6,7 @@ use Rattle.std.proofs.lemmas.List.Folds.{list_any_at}
 use Rattle.std.proofs.lemmas.Option.{slice_get_within, get_or_from_slice_get}
 
 module _ {X : Type 0} where
-  -- what stands in two lists one behind the other
+  -- what stands in two lists one after the other
   pub in_either : (xs ys : List X) (i : ℕ) (x : X) → slice_get (xs ++ ys) i ≡ Some x → (slice_get xs i ≡ Some x) ⊎ ((k : ℕ) × (i ≡ length xs + k) × (slice_get ys k ≡ Some x))
   in_either [] ys i x e = inr (i, (omega arith), e)
   in_either (z ∷ xs) ys zero x e = inl e
@@ -21,7 +21,7 @@ module _ {X : Type 0} where
   in_longer (y ∷ xs) x z zero e = inl e
   in_longer (y ∷ xs) x z (suc i) e = ⊎_elim (λ (l : slice_get xs i ≡ Some z). inl l) (λ (r : (i ≡ length xs) × (z ≡ x)). inr (ap (λ k. suc k) r.0, r.1)) (in_longer xs x z i e)
 
-  -- the items of the front list, and of the one behind it
+  -- the items of the front list, and of the one after it
   pub in_front : (xs ys : List X) (i : ℕ) (x : X) → slice_get xs i ≡ Some x → slice_get (xs ++ ys) i ≡ Some x
   in_front [] ys i x at = cc
   in_front (y ∷ xs) ys zero x at = at

@@ -29,7 +29,7 @@ brings Write = false
 brings Ctl = false
 brings role = true
 
--- the place of an URB of a role: control transfers have endpoint 00, which is None, and the others one of these behind it
+-- the place of an URB of a role: control transfers have endpoint 00, which is None, and the others one of these after it
 abbrev pub IsFor : List End → Role → Option ℕ → Type 0
 IsFor ends Ctl place = place ≡ None
 IsFor ends role place = (p : ℕ) × (e : End) × (place ≡ Some p) × (slice_get ends p ≡ Some e) × (brings role ≡ true → is_in e ≡ true)

@@ -12,7 +12,7 @@ use Rattle.usb_bind.specs.Pool.{Homes, spare_in, least_in, urb, next_urb, taken,
 use Rattle.usb_bind.specs.Probe.{in_slots, all_next, all_taken}
 use Rattle.usb_prepare.proofs.Positions.{shifted, position_behind}
 
--- the homes that are out, and behind them those that aren't
+-- the homes that are out, and after them those that aren't
 abbrev pub pool_with : List ℕ → ℕ → Homes
 pool_with hs more = map Some hs ++ replicate more None
 

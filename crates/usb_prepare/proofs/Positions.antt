@@ -8,7 +8,7 @@ use Rattle.std.proofs.lemmas.Bool.Decides.{nat_tests}
 use Rattle.std.proofs.lemmas.Grind.{common_steps}
 use Rattle.std.proofs.lemmas.List.{take-append-drop}
 
--- behind items that fail a test, the first that passes
+-- after items that fail a test, the first that passes
 behind_len : {X : Type 0} (p : X → Bool) (xs ys : List X) → list_any p xs ≡ false → position_or_len p (xs ++ ys) ≡ length xs + position_or_len p ys
 behind_len p [] ys e = sym (zero-add (position_or_len p ys))
 behind_len p (x ∷ xs) ys e = go (p x) refl e (behind_len p xs ys)

@@ -66,7 +66,7 @@ module _ (script : DeviceScript) (p : Probing) (probes : List Probe) (old : Bind
       answered_so : (answered : Bool) → AsksEach device (requests_of b.driver i) answered asked → (reply.answered ≡ answered) × Stands asked script reply.calls
       answered_so answered asks = let at = subst (λ j. AsksEach device (requests_of b.driver j) answered asked) (sym own) asks in at script p.calls far.heard
 
-      -- the first bytes of the room are the id that was told
+      -- the first bytes of the room are the id that was reported
       told_so : (count : ℕ) (room id : List ℕ) → FitsRoom script → TellsId device b.driver i (Some count) room → id ≡ take count room → id ≡ id_told script p.calls b
       told_so count room id fits tells copied = copied ∙ (tells script p.calls far.heard fits ∙ ap (id_by b.driver script p.calls) (sym own))
 

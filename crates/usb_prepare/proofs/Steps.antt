@@ -94,7 +94,7 @@ module _ (script : DeviceScript) (address : ℕ) where
   one_less (Done device c) next l is = absurd (omega arith)
   one_less Failed next l is = absurd (omega arith)
 
-  -- what the rules answer at each stage, and the state behind
+  -- what the rules answer at each stage, and the state after it
   module _ (state : DeviceState) where
     abbrev rule : Setup → Ruled
     rule setup = control_rule script state setup []
@@ -113,7 +113,7 @@ module _ (script : DeviceScript) (address : ℕ) where
     configured c false false at is and be = cc
     configured c false true at is and be = (cc, cc)
 
-  -- the answer to each request is what the stage says, and the state behind it
+  -- the answer to each request is what the stage says, and the state after it
   record IsRuled (state : DeviceState) (stage : Stage) : Type 0 where
     pub told : answer_to (request_of address stage) (control_rule script state (request_of address stage) []).reply ≡ said_at script stage
     pub bare : 1 < left_of stage → state.configuration ≡ 0 → (control_rule script state (request_of address stage) []).state.configuration ≡ 0
@@ -257,7 +257,7 @@ module _ (script : DeviceScript) (address : ℕ) where
       pub ends : (fault : EnumFault) → heard address stage (said_at script stage).reply (said_at script stage).code ≡ Err fault → after script address (k + 1) ≡ Err fault
       ends fault is = after_more (Err fault) is
 
-  -- behind a fault nothing comes
+  -- after a fault nothing comes
   fault_stays : (fault : EnumFault) (k n : ℕ) → after script address k ≡ Err fault → (after script address (n + k) ≡ Err fault) × (requests_heard script address (n + k) ≡ requests_heard script address k)
   fault_stays fault k zero is = let same : 0 + k ≡ k = omega arith in (ap (after script address) same ∙ is, ap (requests_heard script address) same)
   fault_stays fault k (suc n) is =

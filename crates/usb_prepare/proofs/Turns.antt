@@ -116,7 +116,7 @@ fault_heard script address k stage calls fault l goes other =
     let g = fault_of_goes script address k stage calls fault other goes in
     g.1 ∙ (fault_ends script address fault (k + 1) l g.0).1
 
--- nothing is asked behind the last request
+-- nothing is asked after the last request
 none_left : (address : ℕ) (stage : Stage) → asks address stage ≡ None → left_of stage ≡ 0
 none_left address Fresh is = cc
 none_left address (Begun head) is = cc

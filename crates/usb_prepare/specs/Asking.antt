@@ -45,7 +45,7 @@ abbrev pub count_heard : CtrlReply → ℕ
 count_heard (heard.Moved n) = n
 count_heard _ = 0
 
--- how many requests come behind a stage
+-- how many requests come after a stage
 abbrev pub left_of : Stage → ℕ
 left_of Fresh = 6
 left_of (Begun head) = 5
@@ -60,7 +60,7 @@ abbrev pub is_failed : Stage → Bool
 is_failed Failed = true
 is_failed _ = false
 
--- the device with this script answered the first k requests, and the enumeration came to this stage
+-- the device with this script answered the first k requests, and the enumeration reached this stage
 pub record IsAt (script : DeviceScript) (address k : ℕ) (stage : Stage) (calls : List Call) : Type 0 where
   pub so_far : after script address k ≡ Ok stage
   pub requests : calls ≡ requests_heard script address k

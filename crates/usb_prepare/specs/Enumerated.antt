@@ -1,4 +1,4 @@
--- The enumeration of a scripted device: what it says to the six requests, and what they come to.
+-- The enumeration of a scripted device: what it says to the six requests, and what they yield.
 use Rattle.std.specs.Prelude.{ℕ, zero, suc, ◌≡◌, List, [], take, Option, Some, None, Result, Ok, Err}
 use Rattle.usb_types.specs.declared.errno.Errno.TheVariants.{EPIPE}
 use Rattle.usb_types.specs.declared.errno.Code.TheVariants.{Zero, Fault}
@@ -34,12 +34,12 @@ said_at script Failed = answer [] Zero
 abbrev pub one_more : DeviceScript → ℕ → Stage → Result Stage EnumFault
 one_more script address stage = heard address stage (said_at script stage).reply (said_at script stage).code
 
--- what the first n requests come to
+-- what the first n requests yield
 abbrev pub after : DeviceScript → ℕ → ℕ → Result Stage EnumFault
 after script address zero = Ok Fresh
 after script address (suc n) = then_by (one_more script address) (after script address n)
 
--- what all six come to
+-- what all six yield
 unfoldable pub enumerated : DeviceScript → ℕ → Result Stage EnumFault
 enumerated script address = after script address 6
 
@@ -55,7 +55,7 @@ fault_in (Err fault) = Some fault
 abbrev pub attached_of : DeviceScript → ℕ → Option Attached
 attached_of script address = attached_in address (enumerated script address)
 
--- what the code tells of an enumeration
+-- what the code reports of an enumeration
 abbrev pub IsFound : ℕ → Result Stage EnumFault → Result Attached EnumFault → Type 0
 IsFound address due (Ok attached) = attached_in address due ≡ Some attached
 IsFound address due (Err fault) = due ≡ Err fault

@@ -1,4 +1,4 @@
--- The home of each URB of a scene: those that the scene names, and behind them those of the drivers.
+-- The home of each URB of a scene: those that the scene names, and after them those of the drivers.
 use Rattle.std.specs.Prelude.{ℕ, List, length, slice_index_or, find, Option, None, option_and_then, option_map}
 use Rattle.usb_types.specs.declared.urb.Role.{Role}
 use Rattle.usb_types.specs.declared.urb.UrbId.{UrbId}

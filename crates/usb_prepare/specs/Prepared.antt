@@ -47,7 +47,7 @@ abbrev pub enumeration_of : ℕ → SceneDevice → List Call
 enumeration_of d device = if is_raw device.script.kind then [] else requests_heard device.script (address_of d) 6
 
 -- how far the probes are: the board and the pool; of each device so far what it heard and how its probes went; and the id that
--- each binding of the board was told
+-- each binding of the board was given
 pub record Probes : Type 0 where
   pub board : BoardValue
   pub pool : Homes
@@ -92,7 +92,7 @@ probes_of s = probed_from 0 s.devices (record { board = board_of s; pool = pool_
 abbrev pub bindings_of : Scene → List Bound
 bindings_of s = (probes_of s).board.bindings
 
--- the id that each of them was told when its interface was probed; none but a printer's driver asks for one
+-- the id that each of them was given when its interface was probed; none but a printer's driver asks for one
 abbrev pub ids_of : Scene → List (List ℕ)
 ids_of s = (probes_of s).ids
 

@@ -51,7 +51,7 @@ pub record Asked : Type 0 where
   pub calls : List Call
   pub answered : Bool
 
--- the requests one after another, behind these calls, up to the first that ends the probe
+-- the requests one after another, after these calls, up to the first that ends the probe
 abbrev pub ask_each : DeviceScript → List Call → List Setup → Asked
 ask_each script calls [] = record { calls = calls; answered = true }
 ask_each script calls (setup ∷ setups) =
@@ -68,12 +68,12 @@ abbrev pub id_by : Driver → DeviceScript → List Call → ℕ → List ℕ
 id_by Printer script calls i = bytes_in (reply_to script calls (asking (id_request i)))
 id_by driver script calls i = []
 
--- the id that a device tells the driver of this binding behind these calls: the reply to GET_DEVICE_ID (printer class 1.1 §4.2.1)
+-- the id that a device reports to the driver of this binding after these calls: the reply to GET_DEVICE_ID (printer class 1.1 §4.2.1)
 abbrev pub id_told : DeviceScript → List Call → Bound → List ℕ
 id_told script calls b = id_by b.driver script calls b.interface
 
 -- how far the probes of a device are: the board and the pool, what the device heard, how each probe went, and the id that
--- each binding of the board was told
+-- each binding of the board was given
 pub record Probing : Type 0 where
   pub board : BoardValue
   pub pool : Homes
@@ -81,7 +81,7 @@ pub record Probing : Type 0 where
   pub probes : List Probe
   pub ids : List (List ℕ)
 
--- a binding stays where each request was answered, with the id that it was told, and is cancelled where one was not
+-- a binding stays where each request was answered, with the id that it was given, and is cancelled where one was not
 abbrev pub settled : Probing → Bound → Homes → Asked → List ℕ → Probing
 settled p b pool asked id =
     if asked.answered
@@ -128,11 +128,11 @@ abbrev pub IsWithin : ℕ → Reply → Type 0
 IsWithin most (Packet bytes) = length bytes ≤ most
 IsWithin most _ = Unit {0}
 
--- whatever a device heard, the id that it tells has room
+-- whatever a device heard, the id that it reports has room
 abbrev pub FitsRoom : DeviceScript → Type 0
 FitsRoom script = (calls : List Call) (i : ℕ) → IsWithin 1024 (reply_to script calls (asking (id_request i)))
 
--- the first bytes of the room, where the probe goes on, are the id that the driver is told
+-- the first bytes of the room, where the probe goes on, are the id that the driver is given
 abbrev pub TellsId : Scripted → Driver → ℕ → Option ℕ → List ℕ → Type 0
 TellsId old driver i count room = (script : DeviceScript) (calls : List Call) → Stands old script calls → FitsRoom script
     → IfSome count (λ n. take n room ≡ id_by driver script calls i)

@@ -20,7 +20,7 @@ pub struct One<'a> {
     pub fault: Option<EnumFault>,
 }
 
-/// All of them, by their numbers.
+/// All devices, indexed by scene number.
 #[derive(Drop)]
 pub struct Begun<'a> {
     pub devices: Vec<Scripted<'a>>,
@@ -52,7 +52,7 @@ fn enumerated(device: Scripted<'_>, told: Result<Attached, EnumFault>) -> One<'_
     }
 }
 
-// Makes a device, and enumerates it at the address behind its number.
+// Makes a device, and enumerates it at the address one above its number.
 fn begin<'a>(
     alloc: Global,
     device: &'a SceneDevice,

@@ -27,7 +27,7 @@ pub enum Taken {
     Nobody,
 }
 
-/// An interface, as its setting 0 tells it (USB 2.0 §9.6.5).
+/// An interface, as its setting 0 describes it (USB 2.0 §9.6.5).
 #[derive(Clone, Copy)]
 pub struct Face {
     pub number: u8,

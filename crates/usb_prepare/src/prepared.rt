@@ -15,7 +15,7 @@ pub struct Prepared<'a> {
     pub found: List<Found>,
     /// Which driver has which interface.
     pub board: Board,
-    /// Of each binding, by its place in the board, what its device told when it was probed: the id of a printer. The other
+    /// Of each binding, by its place in the board, what its device reported when it was probed: the id of a printer. The other
     /// drivers ask for none.
     pub ids: List<Buf>,
     /// The endpoints, and the home of each URB.

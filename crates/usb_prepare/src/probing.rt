@@ -118,7 +118,7 @@ fn copy(alloc: Global, bytes: &[u8]) -> Result<Buf, Memory>
     Ok(copy)
 }
 
-/// The bindings of a host, with the id that each was told, and its URBs.
+/// The bindings of a host, with the id that each was given, and its URBs.
 #[derive(Drop)]
 pub struct Bindings {
     pub board: Board,

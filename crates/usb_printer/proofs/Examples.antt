@@ -22,7 +22,7 @@ text = 0x4D ∷ 0x46 ∷ 0x47 ∷ 0x3A ∷ 0x41 ∷ 0x3B ∷ []
 an_id_is_told : print_events reply [] ≡ Id text ∷ []
 an_id_is_told = refl
 
--- bytes behind the length are none of the text, and a length may say more than there is
+-- bytes after the length are none of the text, and a length may say more than there is
 lengths_of_ids : (print_events (reply ++ 0x42 ∷ []) [] ≡ Id text ∷ []) × (print_events (0x01 ∷ 0x08 ∷ text) [] ≡ Id text ∷ [])
 lengths_of_ids = (refl, refl)
 

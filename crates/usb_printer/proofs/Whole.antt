@@ -1,4 +1,4 @@
--- The windows of a job, one behind the other.
+-- The windows of a job, one after the other.
 use Rattle.std.proofs.Common.{◌≡◌, ◌≢◌, ℕ, ◌+◌, ◌-◌, ◌≤◌, Bool, true, false, cond, List, [], ◌∷◌, ◌++◌, length, take, drop, refl, sym, ap, ◌∙◌, arith, append_assoc, eqb-true, zero-add, length-drop}
 use Rattle.std.specs.Prelude.{◌==◌, All}
 use Rattle.std.specs.List.{flat_map}
@@ -72,7 +72,7 @@ last_bytes c h w =
     let len : length (drop c.transfer.from c.transfer.buf) ≡ length c.transfer.buf - c.transfer.from = length-drop c.transfer.from c.transfer.buf in
     take_all c.transfer.actual (drop c.transfer.from c.transfer.buf) (omega arith)
 
--- a window that went well, and all behind it
+-- a window that went well, and all after it
 seam : (t next : Transfer) → t.actual ≡ t.len → Moved t next → moved_of t ++ drop next.from next.buf ≡ drop t.from t.buf
 seam t next w m =
     ap (λ (n : ℕ). take n (drop t.from t.buf) ++ drop next.from next.buf) w

@@ -19,6 +19,6 @@ text_or_dash (b ∷ text) = b ∷ text
 abbrev pub id_text : List ℕ → List ℕ
 id_text reply = text_or_dash (map printable (drop 2 (take (said_length reply) reply)))
 
--- a reply of fewer than two bytes tells nothing
+-- a reply of fewer than two bytes reports nothing
 abbrev pub id_events : List ℕ → List Event
 id_events reply = if nat_lt (length reply) 2 then [] else Id (id_text reply) ∷ []

@@ -58,7 +58,7 @@ abbrev pub port_events : Code → Transfer → List Event
 port_events Zero t = if asks_port t.setup then port_in (moved_of t) else []
 port_events (Fault errno) t = []
 
--- what an URB that came back tells
+-- what an URB that came back reports
 abbrev pub told_by : Role → Code → Transfer → List Event
 told_by Write status t = job_events status t
 told_by Ctl status t = port_events status t
@@ -67,7 +67,7 @@ told_by role status t = []
 abbrev pub events_of : Completion → List Event
 events_of c = told_by c.role c.status c.transfer
 
--- the events of a printer: its id, and what each completion tells
+-- the events of a printer: its id, and what each completion reports
 abbrev pub print_events : List ℕ → List Completion → List Event
 print_events id done = id_events id ++ flat_map events_of done
 
@@ -78,7 +78,7 @@ is_unlink ENOENT = true
 is_unlink ESHUTDOWN = true
 is_unlink errno = false
 
--- behind a window that went well comes the next one, and behind a fault the question, unless the driver's own side made it
+-- after a window that went well comes the next one, and after a fault the question, unless the driver's own side made it
 abbrev pub action_of : Role → Code → Transfer → Action
 action_of Write Zero t = if rest_of t == 0 then Rest else Again (t.from + t.len) (first_window (rest_of t))
 action_of Write (Fault errno) t = if is_unlink errno then Rest else Ask

@@ -1,4 +1,4 @@
--- A whole job: its windows as they came back, one behind the other.
+-- A whole job: its windows as they came back, one after the other.
 use Rattle.std.specs.Prelude.{◌≡◌, ℕ, List, [], ◌∷◌, sum_by}
 use Rattle.std.specs.List.{flat_map}
 use Rattle.usb_types.specs.declared.errno.Code.TheVariants.{Zero}

@@ -1,3 +1,4 @@
+//! The events of a printer.
 use usb_types::{Buf, Code};
 
 /// What happened at a printer.

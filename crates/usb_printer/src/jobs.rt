@@ -1,4 +1,4 @@
-//! What becomes of a printer's transfers, and what they tell.
+//! What becomes of a printer's transfers, and what they report.
 ghost use Rattle.std.specs.Prelude.{◌≡◌};
 ghost use Rattle.std.specs.Option.{option_to_list};
 ghost use Rattle.usb_types.specs.declared.urb.Role.TheVariants.{Write};
@@ -55,7 +55,7 @@ fn rest(t: &Transfer) -> u32
     t.buf.bytes().len() as u32 - (t.from + t.len)
 }
 
-/// What a transfer that came back tells.
+/// What a transfer that came back reports.
 pub(crate) fn event(role: Role, code: Code, t: &Transfer) -> Option<Event>
     requires { HasWindow t.now }
     ensures { option_to_list result ≡ told_by role code t.now }

@@ -10,7 +10,7 @@ ghost use Rattle.usb_printer.specs.declared.event.Event.TheVariants.{Job};
 ghost use Rattle.usb_printer.specs.Jobs.{Completion, events_of, print_events, action_of};
 ghost use Rattle.usb_printer.specs.Whole.{IsJob, WentWell, printed, moved_in, begins_at};
 
-/// What was told stays told: completions that follow add events behind those so far.
+/// What was reported stays reported: completions that follow add events after those so far.
 pub fn events_only_grow()
     ensures { (id : List ℕ) (before after : List Completion) → print_events id (before ++ after) ≡ print_events id before ++ flat_map events_of after }
 {}
@@ -21,7 +21,7 @@ pub fn a_job_is_printed_in_order()
         → All WentWell (first ∷ more) → printed (first ∷ more) ≡ first.transfer.buf }
 {}
 
-/// Behind a window that failed no later window of the job is sent.
+/// After a window that failed no later window of the job is sent.
 pub fn no_window_follows_a_fault()
     ensures { (before : List Completion) (c : Completion) (after : List Completion) → IsJob (before ++ c ∷ after) → c.status ≢ Zero → after ≡ [] }
 {}
@@ -31,7 +31,7 @@ pub fn a_window_is_short()
     ensures { (role : Role) (status : Code) (t : Transfer) (from len : ℕ) → action_of role status t ≡ Again from len → len ≤ 8192 }
 {}
 
-/// A job has one line, which comes with its last window.
+/// A job that came to its end has one line, which comes with its last window. One whose next window is refused has none.
 pub fn a_job_has_one_line()
     ensures { (before : List Completion) (last : Completion) → IsJob (before ++ last ∷ [])
         → flat_map events_of (before ++ last ∷ []) ≡ Job last.transfer.number (last.transfer.from + last.transfer.actual) last.status ∷ [] }

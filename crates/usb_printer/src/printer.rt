@@ -1,3 +1,4 @@
+//! The core of a printer's driver: what its completions mean, what its transfers do next, and its question for the port's status.
 ghost use Rattle.std.specs.Prelude.{◌≡◌, ◌++◌, ◌∷◌, [], true, false, if◌then◌else◌, List, Some, None, OnOk, OnErr, IfOk, ℕ};
 ghost use Rattle.std.specs.Option.{ForSome, option_to_list};
 ghost use Rattle.usb_printer.specs.Requests.{question_of};

@@ -1,3 +1,4 @@
+//! The requests to a printer (printer class 1.1 §4.2).
 ghost use Rattle.std.specs.Prelude.{◌≡◌, [], ◌∷◌, IfOk};
 ghost use Rattle.usb_ctrl.specs.Setup.{setup_of};
 ghost use Rattle.usb_printer.specs.Requests.{get_port_status, soft_reset, question_of};

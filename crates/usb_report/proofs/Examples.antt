@@ -93,7 +93,7 @@ module _ (any : SceneDevice) where
   unfolding digits urb_name call_table
   reported = refl
 
-  -- a keyboard's driver tells its keys, of which one has no name, and its lights
+  -- a keyboard's driver reports its keys, of which one has no name, and its lights
   abbrev keyboard : Bound
   keyboard = record { driver = driver.Keyboard; device = 2; interface = 0; other = None; urbs = Some (record { 0 = 6 }) ∷ Some (record { 0 = 7 }) ∷ [] }
 

@@ -15,7 +15,7 @@ module _ {X : Type 0} (text : ℕ → X → List ℕ) where
       ap (λ t. text n y ++ t) (one_more (n + 1) k ys x (omega arith) e ∙ ap (λ m. numbered text (n + 1) (take k ys) ++ text m x) place)
       ∙ sym (append_assoc (text n y) (numbered text (n + 1) (take k ys)) (text (n + suc k) x))
 
-  -- what was added behind the texts of the first k
+  -- what was added after the texts of the first k
   pub text_more : (before : List ℕ) (k n : ℕ) (xs : List X) (x : X) → k < length xs → x ≡ get_or xs k x → n ≡ k
       → before ++ numbered text 0 (take k xs) ++ text n x ≡ before ++ numbered text 0 (take (k + 1) xs)
   text_more before k n xs x l e is =

@@ -51,7 +51,7 @@ place_of Read1 = (3, refl)
 place_of Write = (4, refl)
 place_of Ctl = (5, refl)
 
--- a binding that has an URB for a purpose has it for the one that is told
+-- a binding that has an URB for a purpose has it for the one that is reported
 has_it : (u : ℕ) (b : Bound) (r : Role) → urb_of_role b r ≡ Some (id u) → has_for u b r ≡ true
 has_it u b r is = ap (λ o. option_map_or (λ (urb : UrbId). eqb urb.0 u) o false) is ∙ same u
   where

@@ -19,7 +19,7 @@ use Rattle.usb_report.specs.Names.{device_name, own_name_or, role_name}
 abbrev pub call_word : ℕ → List ℕ
 call_word code = unwrap_or (name_at call_table code) []
 
--- the words of a target, each with the space behind it
+-- the words of a target, each with the space after it
 abbrev pub target_text : Scene → Target → List ℕ
 target_text s (on.Urb u) = own_name_or [] s u ++ codes " "
 target_text s (on.Role device interface role) = role_name s device interface role ++ codes " "

@@ -46,7 +46,7 @@ abbrev pub received_section : Scene → List EndReceived → List ℕ
 received_section s ends = if list_all has_none ends then [] else line (codes "received" ∷ []) ++ flat_map (end_text s) ends
 
 -- the report of a run: what the devices are found to be, the calls with their answers, what was given back, what the
--- drivers tell, and what the endpoints received
+-- drivers report, and what the endpoints received
 abbrev pub text_of : Scene → List Found → List Bound → List CallMade → List Given → List Told → List EndReceived → List ℕ
 text_of s found bindings made given told ends =
     list_text s found ++ threads_text s made ++ given_section s bindings given ++ drivers_section s bindings told ++ received_section s ends

@@ -20,7 +20,7 @@ fn call_word(code: u32) -> &'static str
     }
 }
 
-// The name of a device and the number of its interface, each with the space behind it.
+// The name of a device and the number of its interface, each with the space after it.
 fn push_interface(report: &mut Buf, scene: &Scene, device: u32, interface: u8) -> Result<(), Memory>
     ensures { OnOk result (report.new ≡ report.old ++ (device_name scene.now device ++ codes " " ++ decimal interface ++ codes " ")) }
 {
@@ -51,7 +51,7 @@ fn push_target(report: &mut Buf, scene: &Scene, target: Target) -> Result<(), Me
     }
 }
 
-// The words of a call's line up to its answer, each with the space behind it.
+// The words of a call's line up to its answer, each with the space after it.
 fn push_call(report: &mut Buf, scene: &Scene, made: &CallMade) -> Result<(), Memory>
     ensures { OnOk result (report.new ≡ report.old ++ call_text scene.now made.now) }
 {

@@ -21,7 +21,7 @@ fn push_quad(report: &mut Buf, number: u16) -> Result<(), Memory>
     push_pairs(report, &number.to_be_bytes())
 }
 
-// A fault's name, and its number behind a space.
+// A fault's name, and its number after a space.
 fn push_at(report: &mut Buf, name: &[u8], at: usize) -> Result<(), Memory>
     ensures { OnOk result (report.new ≡ report.old ++ (name.now ++ decimal at)) }
 {
@@ -127,7 +127,7 @@ fn push_class(report: &mut Buf, face: &Face) -> Result<(), Memory>
     push_pairs(report, &[face.protocol])
 }
 
-// An interface's number and its class's name, each with the space behind it.
+// An interface's number and its class's name, each with the space after it.
 fn push_face_name(report: &mut Buf, face: &Face) -> Result<(), Memory>
     ensures { OnOk result (report.new ≡ report.old ++ decimal face.now.number ++ codes " " ++ class_name face.now.class ++ codes " ") }
 {

@@ -18,7 +18,7 @@ use usb_scene::Scene;
 use usb_text::{push_hex, push_number, push_pairs};
 use usb_types::{Buf, Code, Memory};
 
-// The words of a completion's line up to its length, each with the space behind it.
+// The words of a completion's line up to its length, each with the space after it.
 fn push_result(
     report: &mut Buf,
     scene: &Scene,
@@ -35,7 +35,7 @@ fn push_result(
     report.append(b" ")
 }
 
-// What the gate answered a handler, with the space behind it.
+// What an URB's gate answered a handler, with the space after it.
 fn push_answer(report: &mut Buf, code: Code) -> Result<(), Memory>
     ensures { OnOk result (report.new ≡ report.old ++ code_text code ++ codes " ") }
 {
@@ -43,7 +43,7 @@ fn push_answer(report: &mut Buf, code: Code) -> Result<(), Memory>
     report.append(b" ")
 }
 
-// What the handler did, with the space behind it.
+// What the handler did, with the space after it.
 fn push_outcome(report: &mut Buf, outcome: Outcome) -> Result<(), Memory>
     ensures { OnOk result (report.new ≡ report.old ++ outcome_text outcome ++ codes " ") }
 {
@@ -111,7 +111,7 @@ fn have_none(ends: &[EndReceived]) -> bool
     ends.iter().all(|end| has_none(end))
 }
 
-// The words of an endpoint's line up to its bytes, each with the space behind it.
+// The words of an endpoint's line up to its bytes, each with the space after it.
 fn push_end_words(report: &mut Buf, scene: &Scene, end: &EndReceived) -> Result<(), Memory>
     ensures { OnOk result (report.new ≡ report.old ++ device_name scene.now end.now.shape.device ++ codes " " ++ hex_pair end.now.shape.address ++ codes " " ++ decimal end.now.received.count ++ codes " ") }
 {
@@ -148,7 +148,7 @@ fn push_received(report: &mut Buf, scene: &Scene, ends: &[EndReceived]) -> Resul
 }
 
 /// Adds the report of a run: what the devices are found to be, the calls that were made, what was given back, what the
-/// drivers tell, and what the endpoints received.
+/// drivers report, and what the endpoints received.
 pub fn push_report(
     report: &mut Buf,
     scene: &Scene,

@@ -1,4 +1,4 @@
-//! The drivers of a scene, each with what it tells.
+//! The drivers of a scene, each with what it reports.
 ghost use Rattle.std.specs.Prelude.{◌≡◌, ◌++◌, OnOk};
 ghost use Rattle.usb_report.specs.Telling.{drivers_section};
 
@@ -9,7 +9,7 @@ use usb_scene::Scene;
 use usb_telling::push_told;
 use usb_types::{Buf, Memory};
 
-/// Adds the drivers, in the order in which they were bound, each with what it tells.
+/// Adds the drivers, in the order in which they were bound, each with what it reports.
 pub(crate) fn push_drivers(
     report: &mut Buf,
     scene: &Scene,

@@ -101,7 +101,7 @@ back_carried (made.Print bytes) h = ap (option_map (λ b. made.Print b)) (back_k
 back_carried made.Status h = refl
 back_carried made.SoftReset h = refl
 
--- the words behind it
+-- the words after it
 pub back_words : (st : Statement) → IsSayable st → statement_of (keyword_said st) (words_said st) ≡ Some st
 back_words (say.Device name kind) h =
     ap (λ o. option_and_then (λ n. option_and_then (λ k. Some (say.Device n k)) (device_kind_of (device_kind_text kind))) o) (back_name name h)

@@ -93,7 +93,7 @@ back_items (item ∷ items) h =
     ap (λ o. option_and_then (λ i. option_and_then (λ is. Some (i ∷ is)) (items_of (map item_text items))) o) (back_item item (All-head IsSayableItem item items h))
     ∙ ap (λ o. option_and_then (λ is. Some (item ∷ is)) o) (back_items items (All-tail IsSayableItem item items h))
 
--- `short` and the options behind it
+-- `short` and the options after it
 back_short : (texts : List (List ℕ)) → options_of (codes "short" ∷ texts) ≡ option_and_then (λ others. Some (Short ∷ others)) (options_of texts)
 back_short [] = refl
 back_short (text ∷ texts) = refl

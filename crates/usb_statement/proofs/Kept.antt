@@ -7,7 +7,7 @@ use Rattle.std.proofs.Math.Seq.{take-append-add}
 use Rattle.usb_text.specs.Bytes.{data_of}
 use Rattle.usb_statement.specs.Kept.{joined_data}
 
--- as many bytes behind others as there is room for
+-- as many bytes after others as there is room for
 pub take_onto : (n : ℕ) (all bytes : List ℕ) → length all ≤ n → all ++ take (min (n - length all) (length bytes)) bytes ≡ take n (all ++ bytes)
 take_onto n all bytes h =
     let e : length all + (n - length all) ≡ n = omega arith in

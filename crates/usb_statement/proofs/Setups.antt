@@ -60,7 +60,7 @@ back_first None None h g = refl
 back_first None (Some bytes) h g = no_setup bytes g.0
 back_first (Some packet) bytes h g = back_setup packet h
 
--- and what is sent is behind it
+-- and what is sent is after it
 pub back_behind : (setup bytes : Option (List ℕ)) → IsSetup setup → IsSent bytes → behind_setup (setup_words setup ++ sent_words bytes) ≡ sent_words bytes
 back_behind None None h g = refl
 back_behind None (Some bytes) h g = ap (λ (o : Option (List ℕ)). cond (is_some o) [] (hex_text bytes ∷ [])) (no_setup bytes g.0)

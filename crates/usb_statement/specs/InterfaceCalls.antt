@@ -30,7 +30,7 @@ data_bits_of text = do
   bits ← number_of text
   if is_data_bits bits then Some bits else None
 
--- the call that a word makes with the words behind the interface's number
+-- the call that a word makes with the words after the interface's number
 abbrev pub interface_call_of : InterfaceWord → List (List ℕ) → Option InterfaceCall
 interface_call_of called.Led (lights ∷ []) = option_map (λ lights. made.Led lights) (byte_of lights)
 interface_call_of called.Write texts = option_map (λ bytes. made.Write bytes) (some_data texts)

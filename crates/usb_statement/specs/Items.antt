@@ -26,7 +26,7 @@ times_of text = do
   times ← number_of text
   if nat_le 1 times && nat_le times 4096 then Some times else None
 
--- a reply that comes once, or behind `NUM*` so many times
+-- a reply that comes once, or after `NUM*` so many times
 abbrev pub item_parts : List ℕ → Option (List ℕ × List ℕ) → Option Item
 item_parts text None = option_map (λ what. record { times = 1; what = what }) (what_of text)
 item_parts text (Some parts) = do

@@ -138,7 +138,7 @@ carried_words (made.Print bytes) = hex_text bytes ∷ []
 carried_words made.Status = []
 carried_words made.SoftReset = []
 
--- the words behind the first one
+-- the words after the first one
 abbrev pub words_said : Statement → List (List ℕ)
 words_said (say.Device name kind) = name ∷ device_kind_text kind ∷ []
 words_said (say.Ep address kind size interval) = hex_pair address ∷ kind_text kind ∷ decimal size ∷ decimal interval ∷ []

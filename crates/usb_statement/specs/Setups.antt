@@ -13,7 +13,7 @@ abbrev pub setup_first : List (List ℕ) → Option (List ℕ)
 setup_first [] = None
 setup_first (text ∷ texts) = setup_of text
 
--- the words behind it
+-- the words after it
 abbrev pub behind_setup : List (List ℕ) → List (List ℕ)
 behind_setup [] = []
 behind_setup (text ∷ texts) = if is_some (setup_of text) then texts else text ∷ texts

@@ -124,7 +124,7 @@ sent_of (text ∷ texts) = option_map (λ bytes. Some bytes) (kept_data (text �
 abbrev pub answer_with : ℕ → List Item → Option Statement
 answer_with address items = if not (is_empty items) && are_items_of address items then Some (say.Answer address items) else None
 
--- what a line says, by its first word and the words behind it
+-- what a line says, by its first word and the words after it
 abbrev pub statement_of : Keyword → List (List ℕ) → Option Statement
 statement_of word.Device (name ∷ kind ∷ []) = do
   name ← name_of name

@@ -163,7 +163,7 @@ fn soft_reset(line: &[u8]) -> Option<InterfaceCall>
     }
 }
 
-/// The call that this word makes with the words behind the interface's number.
+/// The call that this word makes with the words after the interface's number.
 pub fn read_interface_call(
     alloc: Global,
     which: InterfaceWord,

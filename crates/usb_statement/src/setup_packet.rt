@@ -28,7 +28,7 @@ fn setup(word: &[u8]) -> Option<[u8; 8]>
     }
 }
 
-/// The setup packet that the first word of a line says, if it does, and the line behind it.
+/// The setup packet that the first word of a line says, if it does, and the line after it.
 pub fn split_setup(line: &[u8]) -> (Option<[u8; 8]>, &[u8])
     ensures setup { result.0 ≡ setup_first (words line.now) }
     ensures behind { words result.1.now ≡ behind_setup (words line.now) }

@@ -1,4 +1,4 @@
-//! What a line of a scene says by itself: its first word, and the words behind it by the row of that word.
+//! What a line of a scene says by itself: its first word, and the words after it by the row of that word.
 ghost use Rattle.std.specs.Prelude.{◌≡◌, ◌∷◌, [], IfOk};
 ghost use Rattle.usb_text.specs.Words.{words};
 ghost use Rattle.usb_statement.specs.Statements.{device_kind_of, end_of, kind_of, answer_with, statement_of};
@@ -321,7 +321,7 @@ fn on_interface(
     }
 }
 
-/// What a line says, by its first word and the line behind it. None where the words do not fit the row.
+/// What a line says, by its first word and the line after it. None where the words do not fit the row.
 pub fn read_statement(
     alloc: Global,
     keyword: Keyword,

@@ -1,4 +1,4 @@
--- What the calls and givebacks of a run come to, where no handler asks a driver's question.
+-- What the calls and givebacks of a run add up to, where no handler asks a driver's question.
 use Rattle.std.specs.Prelude.{ℕ, ◌+◌, ◌==◌, Bool, false, not, if◌then◌else◌, List, [], ◌∷◌, length, map, count_by, Option, Some, None, codes, decimal}
 use Rattle.usb_types.specs.declared.errno.Code.{Code}
 use Rattle.usb_text.specs.Print.{line}
@@ -16,7 +16,7 @@ abbrev pub code_in : CallAnswer → Option Code
 code_in (told.Code code) = Some code
 code_in _ = None
 
--- the gate's answer to a call, if the call submits: 1 is its number in the table of calls
+-- the answer of an URB's gate to a call, if the call submits: 1 is its number in the table of calls
 abbrev pub submit_code : CallMade → Option Code
 submit_code m = if m.code == 1 then code_in m.answer else None
 

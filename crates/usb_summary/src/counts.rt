@@ -1,4 +1,4 @@
-//! What a run comes to: how many transfers were accepted, refused and given back, and how many bytes were moved.
+//! The counts of a run: how many transfers were accepted, refused and given back, and how many bytes were moved.
 ghost use Rattle.std.specs.Prelude.{◌≡◌, map};
 ghost use Rattle.usb_machine.specs.State.{is_zero};
 ghost use Rattle.usb_generate.specs.Summary.{bytes_in};
@@ -20,7 +20,7 @@ pub struct Counts {
     pub bytes: u64,
 }
 
-// What the gate answered a call, if the call submitted.
+// What an URB's gate, which accepts or refuses submits, answered a call, if the call submitted.
 fn submit_code(made: &CallMade) -> Option<Code>
     ensures { result ≡ submit_code made.now }
 {
@@ -93,7 +93,7 @@ fn bytes_moved(given: &[Given]) -> u64
     bytes
 }
 
-/// What these calls and givebacks come to.
+/// The counts of these calls and givebacks.
 pub(crate) fn count(made: &[CallMade], given: &[Given]) -> Counts
     ensures { result ≡ counts_of made.now given.now }
 {

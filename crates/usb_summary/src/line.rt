@@ -1,4 +1,4 @@
-//! The line that tells how the run of a number's scene goes.
+//! The line that says how the run of a number's scene goes.
 ghost use Rattle.std.specs.Prelude.{◌≡◌, ◌++◌, IfOk, OnOk, decimal};
 ghost use Rattle.usb_scene.specs.WellFormed.{IsWellFormed};
 ghost use Rattle.usb_line.specs.Outcome.{IsOutcome};
@@ -48,7 +48,7 @@ fn push_counts(report: &mut Buf, number: u32, counts: Counts) -> Result<(), Memo
     report.append(b"\n")
 }
 
-/// Runs the scene of a number in line order, and adds the line that tells how the run went. After want of memory the text
+/// Runs the scene of a number in line order, and adds the line that says how the run went. After want of memory the text
 /// holds some prefix of the line.
 pub fn summary(alloc: Global, number: u32, report: &mut Buf) -> Result<(), Memory>
     ensures { OnOk result (IsSummed number report.old report.new) }

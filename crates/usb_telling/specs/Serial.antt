@@ -17,7 +17,7 @@ names_in bits =
     name_in bits 0 (codes "dcd") ++ name_in bits 1 (codes "dsr") ++ name_in bits 2 (codes "break") ++ name_in bits 3 (codes "ring")
     ++ name_in bits 4 (codes "framing") ++ name_in bits 5 (codes "parity") ++ name_in bits 6 (codes "overrun")
 
--- the sixteen bits as four digits, the high ones first, and behind them the names
+-- the sixteen bits as four digits, the high ones first, and after them the names
 abbrev pub state_text : ℕ → List ℕ
 state_text bits = hex_pair (bits / 256) ++ hex_pair (bits % 256) ++ names_in bits
 

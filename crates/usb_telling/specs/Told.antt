@@ -1,4 +1,4 @@
--- What a driver tells, as lines.
+-- What a driver reports, as lines.
 use Rattle.std.specs.Prelude.{ℕ, List}
 use Rattle.usb_class.specs.declared.class_core.Told.{Told}
 use Rattle.usb_class.specs.declared.class_core.Told.TheVariants.{Keys, Serial, Jobs}

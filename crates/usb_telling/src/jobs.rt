@@ -16,7 +16,7 @@ fn push_id(report: &mut Buf, text: &[u8]) -> Result<(), Memory>
     report.append(b"\n")
 }
 
-// The numbers of a job's line, each with the space behind it.
+// The numbers of a job's line, each with the space after it.
 fn push_counts(report: &mut Buf, number: u64, bytes: u32) -> Result<(), Memory>
     ensures { OnOk result (report.new ≡ report.old ++ (decimal number ++ codes " " ++ decimal bytes ++ codes " ")) }
 {

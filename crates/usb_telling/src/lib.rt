@@ -1,4 +1,4 @@
-//! What the drivers of devices tell, as lines of a report.
+//! What the drivers of devices report, as lines of a report.
 #![tactic(auto)]
 
 mod jobs;

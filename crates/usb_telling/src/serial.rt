@@ -36,7 +36,7 @@ fn push_name(report: &mut Buf, bits: u16, n: u8, name: &str) -> Result<(), Memor
     report.append(name.as_bytes())
 }
 
-// The names of the lines that stand, each behind a space.
+// The names of the lines that stand, each after a space.
 fn push_names(report: &mut Buf, bits: u16) -> Result<(), Memory>
     ensures { OnOk result (report.new ≡ report.old ++ names_in bits) }
 {
@@ -124,7 +124,7 @@ fn push_dropped(report: &mut Buf, dropped: u64) -> Result<(), Memory>
     report.append(b"\n")
 }
 
-/// Adds the lines of a serial port's events, and behind them how many bytes were dropped, where any were.
+/// Adds the lines of a serial port's events, and after them how many bytes were dropped, where any were.
 pub(crate) fn push_serial(report: &mut Buf, events: &[Event], dropped: u64) -> Result<(), Memory>
     ensures { OnOk result (report.new ≡ report.old ++ serial_text events.now dropped) }
 {

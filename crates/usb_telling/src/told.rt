@@ -1,4 +1,4 @@
-//! What a driver tells, whatever the driver is.
+//! What a driver reports, whatever the driver is.
 ghost use Rattle.std.specs.Prelude.{◌≡◌, ◌++◌, OnOk};
 ghost use Rattle.usb_telling.specs.Told.{told_text};
 
@@ -8,7 +8,7 @@ use crate::serial::push_serial;
 use usb_class::Told;
 use usb_types::{Buf, Memory};
 
-/// Adds the lines of what a driver tells. An `Err` may leave some of them.
+/// Adds the lines of what a driver reports. An `Err` may leave some of them.
 pub fn push_told(report: &mut Buf, told: &Told) -> Result<(), Memory>
     ensures { OnOk result (report.new ≡ report.old ++ told_text told.now) }
 {

@@ -22,7 +22,7 @@ space-blank : is_blank 32 ≡ true
 unfolding is_blank
 space-blank = refl
 
--- a word, a space, and what is behind
+-- a word, a space, and what follows
 all_words-space : (b : ℕ) (word rest : List ℕ) → HasNoBlank (b ∷ word) → all_words ((b ∷ word) ++ 32 ∷ rest) ≡ (b ∷ word) ∷ all_words rest
 all_words-space b [] rest h = simp (h.0, space-blank)
 all_words-space b (c ∷ word) rest h = simp (h.0, h.1.0) (ap (onto_first b) (simp h.1.0 at (all_words-space c word rest h.1)))

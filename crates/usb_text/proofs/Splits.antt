@@ -19,7 +19,7 @@ run_len-prefix_len p (b ∷ bytes) =
 abbrev is_no_feed : ℕ → Bool
 is_no_feed b = not (eqb b 10)
 
--- the first line, and the lines behind its line feed
+-- the first line, and the lines after its line feed
 raw_lines-first : (b : ℕ) (bytes : List ℕ) →
     raw_lines (b ∷ bytes) ≡ take (run_len is_no_feed (b ∷ bytes)) (b ∷ bytes) ∷ raw_lines (drop (suc (run_len is_no_feed (b ∷ bytes))) (b ∷ bytes))
 raw_lines-first b [] = elim (eqb b 10) as (λ t. cond t ([] ∷ []) ((b ∷ []) ∷ []) ≡ take (cond (not t) 1 0) (b ∷ []) ∷ raw_lines (drop (suc (cond (not t) 1 0)) (b ∷ []))) [ true ↦ refl | false ↦ refl ]
@@ -56,11 +56,11 @@ all_words-first b (c ∷ line) e =
     elim (is_blank c) as (λ t. is_blank c ≡ t → all_words (b ∷ c ∷ line) ≡ take (run_len is_inner (b ∷ c ∷ line)) (b ∷ c ∷ line) ∷ all_words (drop (run_len is_inner (b ∷ c ∷ line)) (b ∷ c ∷ line)))
     [ true ↦ λ f. simp (e, f) | false ↦ λ f. let rest = all_words-first c line f in simp (e, f) (ap (onto_first b) (simp f at rest)) ] refl
 
--- a line that is empty behind its blanks has no word
+-- a line that is empty after its blanks has no word
 pub all_words_none : (line : List ℕ) (gap : ℕ) → gap ≡ prefix_len is_blank line → length line ≤ gap → all_words line ≡ []
 all_words_none line gap e h = all_words-gap line ∙ ap all_words (drop_all (run_len is_blank line) line (omega (arith, run_len-prefix_len is_blank line)))
 
--- what stands behind the blanks begins with no blank
+-- what stands after the blanks begins with no blank
 begins-inner : (line : List ℕ) (b : ℕ) (rest : List ℕ) → drop (run_len is_blank line) line ≡ b ∷ rest → is_blank b ≡ false
 begins-inner [] b rest e = cc
 begins-inner (c ∷ line) b rest e =
@@ -74,7 +74,7 @@ at_word (b ∷ rest) len h g f =
     let same : len ≡ run_len is_inner (b ∷ rest) = f ∙ run_len-prefix_len is_inner (b ∷ rest) in
     subst (λ (n : ℕ). all_words (b ∷ rest) ≡ take n (b ∷ rest) ∷ all_words (drop n (b ∷ rest))) (sym same) (all_words-first b rest (g b rest refl))
 
--- the first word of a line, and what is behind it
+-- the first word of a line, and what follows it
 pub all_words_next : (line : List ℕ) (gap len : ℕ) → gap ≡ prefix_len is_blank line → gap < length line
     → len ≡ prefix_len (λ b. not (is_blank b)) (drop gap line) → all_words line ≡ take len (drop gap line) ∷ all_words (drop len (drop gap line))
 all_words_next line gap len e h f =

@@ -5,7 +5,7 @@ use Rattle.std.specs.Str.{bytes_eq}
 use Rattle.hex.specs.Hex.{decode_of}
 use Rattle.usb_text.specs.Kinds.{number_of, byte_of}
 
--- the parts of a word before and behind the first byte b
+-- the parts of a word before and after the first byte b
 abbrev pub cut_at : List ℕ → Option ℕ → Option (List ℕ × List ℕ)
 cut_at word None = None
 cut_at word (Some at) = Some (take at word, drop (at + 1) word)

@@ -11,7 +11,7 @@ abbrev pub hex_text : List ℕ → List ℕ
 hex_text [] = codes "-"
 hex_text (b ∷ bytes) = flat_map hex_pair (b ∷ bytes)
 
--- words with a space between two, and a line feed behind the last
+-- words with a space between two, and a line feed after the last
 abbrev pub line : List (List ℕ) → List ℕ
 line [] = codes "\n"
 line (word ∷ []) = word ++ codes "\n"

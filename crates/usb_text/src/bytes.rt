@@ -1,3 +1,4 @@
+//! The bytes that a word of a scene says.
 ghost use Rattle.std.specs.Prelude.{◌≡◌, ◌<◌, ◌==◌, nat_le, if◌then◌else◌, length, take, drop, position, IfOk, IfSome, None, Some, MatchOption};
 ghost use Rattle.std.specs.Result.{result_ok};
 ghost use Rattle.hex.specs.Hex.{decode_of};
@@ -14,7 +15,7 @@ fn place(word: &[u8], b: u8) -> Option<usize>
     word.iter().position(|c| *c == b)
 }
 
-/// The parts of a word before and behind the first byte `b`.
+/// The parts of a word before and after the first byte `b`.
 pub fn cut(word: &[u8], b: u8) -> Option<(&[u8], &[u8])>
     ensures { MatchOption result (cut b word.now ≡ None) (λ parts. cut b word.now ≡ Some (parts.0.now, parts.1.now)) }
 {

@@ -1,3 +1,4 @@
+//! The kinds of words: numbers, names, bytes and addresses.
 ghost use Rattle.std.specs.Prelude.{◌≡◌, ◌≤◌, ◌^◌, ◌<◌, IfOk, IsTrue, length, take, drop};
 ghost use Rattle.std.specs.Str.{bytes_eq};
 ghost use Rattle.std.specs.List.{list_all};

@@ -1,3 +1,4 @@
+//! The lines of a text.
 ghost use Rattle.std.specs.Prelude.{◌≡◌, ◌<◌, ◌≤◌, ◌∷◌, ◌==◌, length, not};
 ghost use Rattle.std.specs.List.{list_all, prefix_len};
 ghost use Rattle.usb_text.specs.Lines.{raw_lines, without_return, is_plain};
@@ -10,7 +11,7 @@ fn line_len(bytes: &[u8]) -> usize
     bytes.iter().take_while(|b| **b != b'\n').count()
 }
 
-/// The first line, without its line feed, and the bytes behind that.
+/// The first line, without its line feed, and the bytes after that.
 pub fn next_line(bytes: &[u8]) -> (&[u8], &[u8])
     requires { 0 < length bytes.now }
     ensures lines { raw_lines bytes.now ≡ result.0.now ∷ raw_lines result.1.now }

@@ -1,3 +1,4 @@
+//! The words of a report: numbers and bytes.
 ghost use Rattle.std.specs.Prelude.{◌≡◌, ◌++◌, OnOk, decimal};
 ghost use Rattle.std.specs.List.{flat_map};
 ghost use Rattle.usb_text.specs.Print.{hex_pair, hex_text};

@@ -1,3 +1,4 @@
+//! The words of a line.
 ghost use Rattle.std.specs.Prelude.{◌≡◌, ◌<◌, ◌≤◌, ◌∷◌, [], length, not, IfSome, IfNone, IfOk};
 ghost use Rattle.std.specs.List.{prefix_len};
 ghost use Rattle.usb_text.specs.Words.{is_blank, is_comment, all_words, words};
@@ -28,7 +29,7 @@ fn word_len(line: &[u8]) -> usize
     line.iter().take_while(|b| !is_blank(**b)).count()
 }
 
-// The next word, be it a comment or not, and what is behind it.
+// The next word, be it a comment or not, and what follows it.
 fn next_piece(line: &[u8]) -> Option<(&[u8], &[u8])>
     ensures none { IfNone result (all_words line.now ≡ []) }
     ensures word { IfSome result (λ found. all_words line.now ≡ found.0.now ∷ all_words found.1.now) }
@@ -52,7 +53,7 @@ fn is_comment(word: &[u8]) -> bool
     }
 }
 
-/// The first word of what is left of a line, and what is behind it.
+/// The first word of what is left of a line, and what follows it.
 pub fn next_word(line: &[u8]) -> Option<(&[u8], &[u8])>
     ensures none { IfNone result (words line.now ≡ []) }
     ensures word { IfSome result (λ found. words line.now ≡ found.0.now ∷ words found.1.now) }

@@ -14,7 +14,7 @@ or_false : (a b : Bool) → (a || b) ≡ false → (a ≡ false) × (b ≡ false
 or_false true b h = cc
 or_false false b h = (refl, h)
 
--- what is behind the first entry is a table, and does not clash with it
+-- what is after the first entry is a table, and does not clash with it
 heads : (e : Entry) (behind : List Entry) → is_table (e ∷ behind) ≡ true → (list_any (clashes e) behind ≡ false) × (is_table behind ≡ true)
 heads e behind h = let p = and_parts (not (list_any (clashes e) behind)) (is_table behind) h in (not_true _ p.0, p.1)
 

@@ -27,7 +27,7 @@ is_table (e ∷ behind) = not (list_any (clashes e) behind) && is_table behind
 abbrev pub IsTable : List Entry → Type 0
 IsTable table = IsTrue (is_table table)
 
--- an entry behind another one has a greater code and another name
+-- an entry after another one has a greater code and another name
 abbrev pub Follows : Entry → Entry → Type 0
 Follows e later = (e.code < later.code) × (e.name ≢ later.name)
 

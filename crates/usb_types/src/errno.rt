@@ -1,3 +1,4 @@
+//! Errnos, and the answers and statuses that they make.
 ghost use Rattle.std.specs.Prelude.{◌≡◌};
 ghost use Rattle.usb_types.specs.Codes.{errno_number, errno_name, code_text};
 

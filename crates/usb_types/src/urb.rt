@@ -1,3 +1,4 @@
+//! The words for URBs: their numbers, why they are unlinked, flags, roles, and what drivers do next.
 ghost use Rattle.std.specs.Prelude.{◌≡◌};
 ghost use Rattle.usb_types.specs.Codes.{errno_of};
 

@@ -18,7 +18,7 @@ in_end = record { device = 0; address = 129; kind = Bulk; max = 4; interval = 0 
 abbrev out_end : Shape
 out_end = record { device = 0; address = 2; kind = Bulk; max = 4; interval = 0 }
 
--- a transfer of so many bytes, behind the first of its buffer
+-- a transfer of so many bytes, after the first of its buffer
 abbrev sent : ℕ → Bool → Transfer
 sent len short = record { setup = None; buf = 10 ∷ 11 ∷ 12 ∷ 13 ∷ 14 ∷ 15 ∷ 16 ∷ 17 ∷ 18 ∷ 19 ∷ []; from = 1; len = len; short_not_ok = short; actual = 0; number = 7 }
 

@@ -68,7 +68,7 @@ input_moves max (Packet bytes) t =
     else t
 input_moves max _ t = t
 
--- the transfer when the device was asked and nothing is counted yet: a good packet stands behind the moved bytes
+-- the transfer when the device was asked and nothing is counted yet: a good packet stands after the moved bytes
 abbrev pub filled : ℕ → Reply → Transfer → Transfer
 filled max (Packet bytes) t =
     if nat_le (length bytes) max && nat_le (length bytes) (t.len - t.actual)

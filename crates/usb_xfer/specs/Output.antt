@@ -19,7 +19,7 @@ is_ack _ = false
 abbrev pub acks : List Reply → ℕ
 acks replies = count_by is_ack replies
 
--- whether a transfer ends with this reply: what is neither an Ack nor a Nak, or the Ack with which full packets, one at least, come to len
+-- whether a transfer ends with this reply: what is neither an Ack nor a Nak, or the Ack with which full packets, one at least, make up len
 abbrev pub output_stops : ℕ → ℕ → List Reply → Reply → Bool
 output_stops max len before Ack = nat_le len (max * (acks before + 1))
 output_stops max len before Nak = false

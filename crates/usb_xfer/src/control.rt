@@ -1,3 +1,4 @@
+//! One whole control transfer.
 ghost use Rattle.std.specs.Prelude.{ℕ, ◌≡◌, true, false, [], List, length};
 ghost use Rattle.usb_machine.specs.Shapes.{HasWindow};
 ghost use Rattle.usb_xfer.specs.Direction.{goes_in, is_control, setup_in, asked_at};

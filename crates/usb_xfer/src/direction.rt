@@ -1,3 +1,4 @@
+//! Which way an address or a setup packet goes, and which endpoints take control transfers.
 ghost use Rattle.std.specs.Prelude.{◌≡◌};
 ghost use Rattle.usb_xfer.specs.Direction.{goes_in, is_control};
 

@@ -1,3 +1,4 @@
+//! The law that one reply more is one step more.
 ghost use Rattle.std.specs.Prelude.{ℕ, ◌≡◌, ◌++◌, ◌∷◌, [], List};
 ghost use Rattle.usb_machine.specs.declared.layout.Shape.{Shape};
 ghost use Rattle.usb_machine.specs.declared.transfer.Transfer.{Transfer};

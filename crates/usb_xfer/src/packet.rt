@@ -1,3 +1,4 @@
+//! One packet of a transfer, in or out.
 ghost use Rattle.std.specs.Prelude.{ℕ, false, ◌≡◌, ◌+◌, ◌≤◌, ◌<◌, ◌++◌, length, List, take, drop, slice_range};
 ghost use Rattle.usb_machine.specs.Shapes.{HasWindow};
 ghost use Rattle.usb_xfer.specs.Replies.{Reply, Question, Fetch, Send, in_heard, out_heard};
@@ -28,7 +29,7 @@ fn next_size(t: &Transfer, max: u16) -> u32
     (max as u32).min(t.len - t.actual)
 }
 
-// Asks the device for one packet, at the place behind the moved bytes.
+// Asks the device for one packet, at the place after the moved bytes.
 fn fetch<D: Device>(t: &mut Transfer, shape: &Shape, device: &mut D) -> InReply
     requires { HasWindow t.old }
     ensures { (r : Reply) × (D.replies device.old shape.now.address Fetch r device.new) × (result ≡ in_heard r) × (t.new ≡ filled shape.now.max r t.old) }

@@ -1,3 +1,4 @@
+//! Tests of transfers over a small device.
 ghost use Rattle.std.specs.Prelude.{◌≡◌, ◌<◌};
 ghost use Rattle.usb_xfer.specs.Replies.{Reply, control_in_heard, room_after};
 

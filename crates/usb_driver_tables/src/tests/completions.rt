@@ -1,4 +1,4 @@
-//! URBs that came back: their transfers and statuses, and words of what is told of them.
+//! URBs that came back: their transfers and statuses, and words of what is reported of them.
 ghost use Rattle.std.specs.Prelude.{IfOk};
 ghost use Rattle.usb_machine.specs.Shapes.{HasWindow};
 
@@ -8,7 +8,7 @@ use usb_machine::Transfer;
 use usb_text::{data_bytes, is_text, push_hex};
 use usb_types::{Buf, Errno, Memory};
 
-/// A transfer that moved these bytes. Its window begins behind one byte of its buffer, and has room for one more.
+/// A transfer that moved these bytes. Its window begins after one byte of its buffer, and has room for one more.
 pub fn transfer(alloc: Global, setup: Option<[u8; 8]>, moved: &[u8]) -> Result<Transfer, Fail>
     ensures { IfOk result HasWindow }
 {
@@ -67,7 +67,7 @@ pub fn bytes(alloc: Global, words: &[u8]) -> Result<Buf, Fail> {
     Ok(bytes)
 }
 
-/// Adds a word, behind a blank where it is not the first.
+/// Adds a word, after a blank where it is not the first.
 pub fn push_word(text: &mut Buf, word: &str) -> Result<(), Memory> {
     if !text.bytes().is_empty() {
         text.append(b" ")?;

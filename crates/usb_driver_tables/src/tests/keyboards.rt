@@ -1,7 +1,7 @@
 //! What keyboards said, and the events of it, written by hand from HID 1.11 (appendices B, C and F).
 //!
-//! A word is an URB that came back. Bytes alone are a read that succeeded, and behind an errno one that failed; behind
-//! `led` they are lights that were sent, and behind `unled` lights that were not taken.
+//! A word is an URB that came back. Bytes alone are a read that succeeded, and after an errno one that failed; after
+//! `led` they are lights that were sent, and after `unled` lights that were not taken.
 use crate::tests::completions::{errno, push_bytes, transfer};
 use std::alloc::Global;
 use std::process::Abort;
@@ -36,7 +36,7 @@ fn complete(alloc: Global, keyboard: &mut Keyboard, word: &[u8]) -> Result<Actio
     Ok(keyboard.complete(role, code, &t)?)
 }
 
-/// The events as a report tells them, on one line and without names.
+/// The events as a report prints them, on one line and without names.
 fn text_of(alloc: Global, events: &[Event]) -> Result<Buf, Memory> {
     let mut text = Buf::of(Vec::new(alloc));
     for event in events {
@@ -145,7 +145,7 @@ fn modifiers_come_before_the_keys(rt: HostRuntime) -> Result<(), Fail> {
             "8100040000000000 8000050000000000",
             "down E0 down E7 down 04 up E0 up 04 down 05",
         ),
-        // No boot keyboard has a modifier's usage among its codes. Here it is told as any code is.
+        // No boot keyboard has a modifier's usage among its codes. Here it is reported as any code is.
         ("0200E10000000000", "down E1 down E1"),
     ];
     check_events(&rt, ROWS)

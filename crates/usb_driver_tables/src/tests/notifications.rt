@@ -14,7 +14,7 @@ fn the_lines_stand_in_two_bytes(rt: HostRuntime) -> Result<(), Fail> {
         ("A1200000000002008001", "state 0180"),
         ("A12000000000020000FF", "state FF00"),
         ("A120000000000200FFFF", "state FFFF"),
-        // The value, and the interface that tells, are not looked at.
+        // The value, and the interface that reports, are not looked at.
         ("A1200000010002000300", "state 0003"),
         ("A120FFFFFFFF02000300", "state 0003"),
         (
@@ -187,7 +187,7 @@ fn data_are_no_notifications(rt: HostRuntime) -> Result<(), Fail> {
             "A120000000000200A120 A1200000000002000300",
             "state 20A1 state 0003",
         ),
-        // What is behind the data is the next one, wherever it should have begun.
+        // What is after the data is the next one, wherever it should have begun.
         (
             "A101000000000800A120000000000200 0300 A1200000000002000300",
             "note 01 note 00",

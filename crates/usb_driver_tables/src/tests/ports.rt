@@ -85,7 +85,7 @@ fn the_port_tells_its_status_in_one_byte(rt: HostRuntime) -> Result<(), Fail> {
     Ok(())
 }
 
-/// Two jobs, of which one fails, and a status behind each.
+/// Two jobs, of which one fails, and a status after each.
 fn two_jobs(alloc: Global, printer: &mut Printer) -> Result<(), Fail> {
     finish_job(alloc, printer, Code::Zero, 1)?;
     control(alloc, printer, b"status=18")?;

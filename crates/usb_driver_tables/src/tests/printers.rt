@@ -76,7 +76,7 @@ fn push_event(text: &mut Buf, event: &Event) -> Result<(), Memory> {
     }
 }
 
-/// The events as a report tells them, on one line.
+/// The events as a report prints them, on one line.
 fn push_events(text: &mut Buf, events: &[Event]) -> Result<(), Memory> {
     for event in events {
         push_event(text, event)?;
@@ -211,7 +211,7 @@ fn a_fault_ends_a_job_and_asks_for_the_port(rt: HostRuntime) -> Result<(), Fail>
 #[test]
 fn an_id_is_its_printable_text(rt: HostRuntime) -> Result<(), Fail> {
     const ROWS: &[(&str, &str)] = &[
-        // A reply without a length tells nothing.
+        // A reply without a length reports nothing.
         ("-", ""),
         ("00", ""),
         // The length counts its own two bytes; one below that leaves nothing.

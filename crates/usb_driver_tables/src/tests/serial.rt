@@ -74,7 +74,7 @@ fn push_event(text: &mut Buf, event: &Event) -> Result<(), Memory> {
     }
 }
 
-/// The events as a report tells them, on one line and without names, and what was dropped.
+/// The events as a report prints them, on one line and without names, and what was dropped.
 fn text_of(alloc: Global, port: &Acm) -> Result<Buf, Memory> {
     let mut text = Buf::of(Vec::new(alloc));
     for event in port.events() {
@@ -151,7 +151,7 @@ fn writes_and_line_codings_are_told(rt: HostRuntime) -> Result<(), Fail> {
         ("coding=8025", "coding 8025"),
         ("coding.EPIPE=80250000000008", ""),
         ("coding.ENOENT=-", ""),
-        // No other request is told.
+        // No other request is reported.
         ("asked=80250000000008 control=- break=- bare=0102", ""),
         ("control.EPIPE=- break.EPROTO=-", ""),
         (

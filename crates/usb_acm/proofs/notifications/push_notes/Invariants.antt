@@ -3,7 +3,7 @@ use Rattle.usb_acm.specs.declared.event.Event.{Event}
 use Rattle.usb_acm.specs.Notifications.{notes, unfinished}
 use Rattle.usb_acm.proofs.notifications.push_notes.Given as goal
 
--- what was told comes first, and the rest is what is told of the bytes behind
+-- what was reported comes first, and the rest is what is reported of the bytes after them
 abbrev pub invariant-loop-stream : goal.invariant-loop-stream
 invariant-loop-stream l = record {
   within : l.at ≤ length l.bytes;

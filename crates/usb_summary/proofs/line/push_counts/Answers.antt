@@ -3,7 +3,7 @@ use Rattle.usb_summary.specs.declared.counts.Counts.{Counts}
 use Rattle.usb_summary.specs.Counts.{counts_line}
 use Rattle.usb_summary.proofs.line.push_counts.Goals as goal
 
--- the words and numbers one behind another are the line
+-- the words and numbers one after another are the line
 joined : (old : List ℕ) (number : ℕ) (counts : Counts)
     → old ++ (codes "gen " ++ decimal number) ++ (codes " calls 2000 accepted " ++ decimal counts.accepted) ++ (codes " refused " ++ decimal counts.refused)
     ++ (codes " given " ++ decimal counts.given) ++ (codes " bytes " ++ decimal counts.bytes) ++ codes "\n" ≡ old ++ counts_line number counts
