@@ -75,3 +75,6 @@ pub mod Owners
 pub mod Apt
 pub mod Reading
 pub mod Inquiries
+pub mod ExampleScenes
+mod HandlerExamples
+mod CallExamples
