@@ -47,13 +47,12 @@ impl Board {
         devices: List<Option<Attached>>,
         firsts: List<u32>,
     ) -> Result<Board, Memory>
+        requires few { length devices < 2 ^ 32 }
         requires firsts { length firsts ≡ length devices }
         requires low { All (λ first. first < 2 ^ 31) firsts }
         ensures { IfOk result (λ board. board ≡ record { devices = devices; firsts = firsts; bindings = [] }) }
     {
-        let Some(room) = devices.items().len().checked_mul(NUMBERS) else {
-            return Err(Memory);
-        };
+        let room = devices.items().len() * NUMBERS;
         match Vec::with_capacity(alloc, room) {
             Ok(bindings) => Ok(Board {
                 devices,

@@ -3,7 +3,5 @@
 
 mod draws;
 mod generator;
-#[cfg(test)]
-mod tests;
 
 pub use generator::generate;

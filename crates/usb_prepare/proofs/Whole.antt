@@ -48,6 +48,10 @@ pub firsts_long : (s : Scene) (firsts : List ℕ) (attached : List (Option Attac
 firsts_long s firsts attached f a =
     ap (λ (l : List ℕ). length l) f ∙ (length-map_below (first_end s.devices) (length s.devices) ∙ (sym (attached_long 0 s.devices) ∙ sym (ap (λ (l : List (Option Attached)). length l) a)))
 
+pub few_attached : (s : Scene) (attached : List (Option Attached)) → IsWellFormed s → attached ≡ attached_from 0 s.devices → length attached < 4294967296
+few_attached s attached good a =
+    let long = ap (λ (l : List (Option Attached)). length l) a ∙ attached_long 0 s.devices in let few = good.few_devices in omega arith
+
 pub firsts_low : (s : Scene) → IsWellFormed s → (firsts : List ℕ) → firsts ≡ firsts_of s → (k d : ℕ) → k < length firsts → slice_index_or firsts k d < 2147483648
 firsts_low s good firsts f k d near =
     let long = ap (λ (l : List ℕ). length l) f ∙ length-map_below (first_end s.devices) (length s.devices) in

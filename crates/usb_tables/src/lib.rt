@@ -1,4 +1,4 @@
-//! Tables of cases for texts, descriptors, enumeration and the URB machine, with answers by hand.
+//! Tables of cases for texts, descriptors, enumeration, the URB machine, transfers and the scenes of numbers, with answers by hand.
 #![tactic(auto)]
 
 #[cfg(test)]

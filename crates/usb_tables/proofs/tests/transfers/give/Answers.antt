@@ -2,7 +2,7 @@ use Rattle.std.proofs.Common.{◌≡◌, ◌<◌, ℕ, true, cond, nat_le, List,
 use Rattle.std.proofs.lemmas.Grind.{common_steps}
 use Rattle.usb_xfer.specs.declared.script.What.TheVariants.{Packet}
 use Rattle.usb_xfer.specs.Replies.{room_after}
-use Rattle.usb_xfer.proofs.tests.give.Goals as goal
+use Rattle.usb_tables.proofs.tests.transfers.give.Goals as goal
 
 -- a byte at the start of a room that has one
 begun : (room : List ℕ) → 0 < length room → slice_set room 0 7 ≡ room_after (Packet (7 ∷ [])) room

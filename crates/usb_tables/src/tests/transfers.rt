@@ -1,13 +1,12 @@
-//! Tests of transfers over a small device.
+//! Transfers that a device takes or gives, packet by packet and at once.
 ghost use Rattle.std.specs.Prelude.{◌≡◌, ◌<◌};
 ghost use Rattle.usb_xfer.specs.Replies.{Reply, control_in_heard, room_after};
 
-use crate::direction::is_in;
-use crate::{CtrlReply, Device, InReply, OutReply, Step, advance_on};
 use std::test::Fail;
 use usb_ctrl::Setup;
 use usb_machine::{EndKind, Shape, Transfer};
 use usb_types::{Buf, Code};
+use usb_xfer::{CtrlReply, Device, InReply, OutReply, Step, advance_on, is_in};
 
 /// Takes each packet and keeps the sum of its bytes and the number of packets. It has no packet to give, and one byte
 /// of control data.
