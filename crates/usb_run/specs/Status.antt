@@ -1,8 +1,9 @@
--- The number that the process ends with.
+-- The number of a status, with which a process ends.
 use Rattle.std.specs.Prelude.{ℕ}
 use Rattle.usb_run.specs.declared.status.Status.{Status}
 use Rattle.usb_run.specs.declared.status.Status.TheVariants.{Done, ReadFault, WriteFault, BadWords, BadScene, TooLong, Memory}
 
+-- the number of a status
 abbrev pub number_of : Status → ℕ
 number_of Done = 0
 number_of ReadFault = 1

@@ -7,7 +7,6 @@ mod output;
 mod status;
 mod top;
 
-pub use input::INPUT_LIMIT;
 pub use status::Status;
 pub use top::{list, serial, usbrun};
 pub use usb_generate::generate;

@@ -1,9 +1,11 @@
 //! How the program ends.
 ghost use Rattle.std.specs.Prelude.{◌≡◌};
+ghost use Rattle.std.specs.Process.{exit_status};
 ghost use Rattle.usb_run.specs.Status.{number_of};
 
 use std::fmt;
 use std::fmt::Display;
+use std::process::ExitCode;
 use usb_scene::Cause;
 
 /// How the program ended.
@@ -26,7 +28,7 @@ pub enum Status {
 }
 
 impl Status {
-    /// The number that the process ends with.
+    /// The number of the status.
     pub fn number(self) -> u8
         ensures { result ≡ number_of self }
     {
@@ -39,6 +41,15 @@ impl Status {
             Status::TooLong => 5,
             Status::Memory => 6,
         }
+    }
+}
+
+/// A process ends with the number of its status.
+impl From<Status> for ExitCode {
+    ghost from_gives = { λ status code. exit_status code ≡ number_of status };
+
+    fn from(status: Status) -> ExitCode {
+        ExitCode::from(status.number())
     }
 }
 

@@ -10,10 +10,10 @@ ghost use Rattle.usb_run.specs.declared.command.Command.{Command};
 ghost use Rattle.usb_run.specs.declared.status.Status.{Status};
 ghost use Rattle.usb_run.specs.Words.{command_of};
 ghost use Rattle.usb_run.specs.Top.{list_of, reads, AddsReport, IsReport, IsStop, IsTextOf, Ran, RanInPart, ReadsNoScene, ReadsScene};
-ghost use Rattle.usb_run.specs.Io.{ReadsTooMany};
+ghost use Rattle.usb_run.specs.Io.{input_limit, ReadsTooMany};
 
 use crate::command::{Command, read_command};
-use crate::input::{INPUT_LIMIT, Stop, read_input};
+use crate::input::{Stop, read_input};
 use crate::output::write_output;
 use crate::status::Status;
 use std::alloc::Global;
@@ -170,15 +170,15 @@ pub fn usbrun<R: Threads + Wait + Sync, S: Source, K: Sink, G: Gate + Sync>(
         (bytes : List ℕ) × ReadsTooMany (S.left input.old) (S.left input.new) bytes }
 
     ensures no_scene { (command : Command) (bytes : List ℕ) (line : ℕ) (cause : Cause) → command_of (map string_bytes words.now) ≡ Some command → reads command ≡ true →
-        S.left input.old ≡ Some bytes → length bytes ≤ INPUT_LIMIT → scene_of bytes ≡ Err (line, cause) →
+        S.left input.old ≡ Some bytes → length bytes ≤ input_limit → scene_of bytes ≡ Err (line, cause) →
         (result ≡ Status.BadScene line cause) ⊎ (result ≡ Status.ReadFault) ⊎ (result ≡ Status.Memory) }
     ensures longer { (command : Command) (bytes : List ℕ) → command_of (map string_bytes words.now) ≡ Some command → reads command ≡ true →
-        S.left input.old ≡ Some bytes → INPUT_LIMIT < length bytes →
+        S.left input.old ≡ Some bytes → input_limit < length bytes →
         (result ≡ Status.TooLong) ⊎ (result ≡ Status.ReadFault) ⊎ (result ≡ Status.Memory) }
 
     // A scene between ends that do not fail is run or listed, unless memory runs out, and so is a number's scene.
     ensures complete { (command : Command) (bytes : List ℕ) (scene : Scene) → command_of (map string_bytes words.now) ≡ Some command → reads command ≡ true →
-        S.left input.old ≡ Some bytes → length bytes ≤ INPUT_LIMIT → scene_of bytes ≡ Ok scene →
+        S.left input.old ≡ Some bytes → length bytes ≤ input_limit → scene_of bytes ≡ Ok scene →
         (Rose (S.faults input.old) (S.faults input.new) → ⊥) → (Rose (K.faults out.old) (K.faults out.new) → ⊥) →
         (result ≡ Status.Done) ⊎ (result ≡ Status.Memory) }
     ensures complete_number { (command : Command) → command_of (map string_bytes words.now) ≡ Some command → reads command ≡ false →
