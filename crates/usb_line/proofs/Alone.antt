@@ -59,7 +59,7 @@ same_marked s f u v w y t r a b = let x = sym a.first ∙ b.first in let same : 
     let z = sym a.transfer ∙ (ap (sent_of f.history) same ∙ b.transfer) in let sent : t ≡ r = cc in (same, why, sent)
 
 module _ (s : Scene) (f : Progress) where
-  -- how the endpoint behind the first e ones is gone through
+  -- how the endpoint after the first e ones is gone through
   data Step1 (e : ℕ) (m : Progress) : Progress → Type 0 where
     skips : (m.asleep e ≡ true) ⊎ (pending_of (machine_of s) m.history e ≡ []) → Step1 e m m
     waits_here : (u : ℕ) (t : Transfer) (n : ℕ) → m.asleep e ≡ false → IsServed s m e u t → GoesTo s m e t n Waiting → Step1 e m (waits s m e t n)

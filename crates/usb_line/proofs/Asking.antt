@@ -1,4 +1,4 @@
--- The question that a printer's driver asks behind a job: the URB that it is asked with, and what that URB may have.
+-- The question that a printer's driver asks after a job: the URB that it is asked with, and what that URB may have.
 use Rattle.std.proofs.Common.{ℕ, zero, suc, ◌≡◌, ◌≢◌, ◌+◌, ◌<◌, Bool, true, false, cond, eqb, Option, Some, None, List, [], ◌∷◌, refl, sym, ap, ◌∙◌, arith, true≢false}
 use Rattle.std.specs.Prelude.{slice_get, find}
 use Rattle.std.specs.Option.{option_map_or}

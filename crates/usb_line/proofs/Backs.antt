@@ -71,7 +71,7 @@ times_push u rounds r = sum_by-append (λ (q : Giveback). cond {A = ℕ} (eqb q.
     alone : (n : ℕ) → 0 + n ≡ n
     alone n = omega arith
 
--- another URB is first with the same replies, or comes to be first with none
+-- another URB is first with the same replies, or becomes first with none
 others_had : (u v : ℕ) → v ≢ u → (us : List ℕ) (l : List Reply) → cond (is_first v (without u us)) (cond (is_first u us) [] l) [] ≡ cond (is_first v us) l []
 others_had u v off [] l = refl
 others_had u v off (w ∷ us) l = dite (ℕ_discrete w u)

@@ -69,7 +69,7 @@ asks_for (Some b) false (action.Again from len) is = cc
 asks_for None true (action.Again from len) is = cc
 asks_for None false (action.Again from len) is = cc
 
--- and behind a write of it
+-- and after a write of it
 writer_of : (owner : Option Owner) (may : Bool) (status : Code) (t : Transfer) → action_by owner may status t ≡ action.Ask → (o : Owner) × (owner ≡ Some o) × (o.role ≡ Write)
 writer_of None true status t is = cc
 writer_of None false status t is = cc

@@ -66,7 +66,7 @@ pub record Goes (s : Scene) (f : Progress) : Type 0 where
   -- a thread holds the rejects that its calls raised and did not withdraw
   pub rejects : (i : ℕ) → i < length s.threads → (v : ℕ) → rejects_at v (part_of f.history (pass_of s i)) + sum_withdrawn_by s v (calls_by i f.doings) ≡ sum_raised_by s v (calls_by i f.doings)
 
--- behind the drivers' reads
+-- after the drivers' reads
 pub goes_begun : (s : Scene) → IsWellFormed s → Goes s (begun s)
 goes_begun s good = record {
   serves = begun_serves s good;

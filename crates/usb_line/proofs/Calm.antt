@@ -94,7 +94,7 @@ still_part p (x ∷ xs) is = go (eqb x.pass p) (still_part p xs is.1)
 pub linked_still : (h xs : List Entry) → AreStill xs → AllLinked h → AllLinked (h ++ xs)
 linked_still h xs is linked p u = ap (λ m. owes m u) (filter-append (λ x. eqb x.pass p) h xs) ∙ stills_owe (part_of h p) (part_of xs p) (still_part p xs is) u (linked p u)
 
--- entries of one pass behind which it owes no Link
+-- entries of one pass after which it owes no Link
 module _ (q : ℕ) (h xs : List Entry) (is : AreOf q xs) (none : (m : List Entry) (u : ℕ) → owes m u ≡ false → owes (m ++ xs) u ≡ false) where
   linked_by : AllLinked h → AllLinked (h ++ xs)
   linked_by linked p u = dite (ℕ_discrete q p)

@@ -56,7 +56,7 @@ module _ (a : ℕ) where
   asked_elsewhere b off calls questions = questions-append calls (calls_at b questions) ∙ (ap (λ l. questions_at a calls ++ l) (other_questions b off questions) ∙ append-nil (questions_at a calls))
 
 module _ (script : DeviceScript) (a : ℕ) where
-  -- the replies at an address to one question after another, behind these calls
+  -- the replies at an address to one question after another, after these calls
   abbrev pub answers : List Call → List Question → List Reply
   answers calls [] = []
   answers calls (q ∷ questions) = reply_to script calls (call_of a q) ∷ answers (calls ++ call_of a q ∷ []) questions

@@ -1,4 +1,4 @@
--- Entries behind a history: those of one pass, those of one URB, and chains of which each may follow.
+-- Entries after a history: those of one pass, those of one URB, and chains of which each may follow.
 use Rattle.std.proofs.Common.{ℕ, ◌≡◌, ◌≢◌, true, false, cond, eqb, fold, List, [], ◌∷◌, ◌++◌, refl, sym, ap, ◌∙◌, subst, append_assoc, append-nil, eq-eqb, ne_eqb}
 use Rattle.std.proofs.lemmas.List.Sums.{fold-append}
 use Rattle.std.proofs.lemmas.List.Elements.{filter-append}

@@ -148,7 +148,7 @@ module _ (run new : LineRun) (u : ℕ) (row : UrbRow) (t now : Transfer) (at : s
       let before = was in let after = left_now in let keeps = back_keeps row.owner t now action o row.again stays in let added = sum in
       let rows = sum_keeps weight run.urbs.items u row (row_back o action now mid) at (omega arith) in omega arith
 
-  -- it goes on behind its window
+  -- it goes on after its window
   pub falls_behind : behind (window_by action now) < behind t → all_left new.devices.items ≤ all_left run.devices.items → turns_left new < turns_left run
   falls_behind on keeps =
       let before = was in let after = left_now in let less = back_behind row.owner t now action o row.again on in falls_row (omega arith) keeps
@@ -194,7 +194,7 @@ waits_keeps run new u row t now at had stays rows keeps =
 same_buffer : (buf : List ℕ) (from : ℕ) (bytes : List ℕ) → from + length bytes ≤ length buf → length (take from buf ++ bytes ++ drop (from + length bytes) buf) ≡ length buf
 same_buffer buf from bytes l = grind (arith, common_steps)
 
--- what a transfer has behind its window stays, however it is moved
+-- what a transfer has after its window stays, however it is moved
 with_behind : (t : Transfer) (bytes : List ℕ) → HasWindow t → length bytes ≤ t.len → behind (with_bytes t bytes) ≡ behind t
 with_behind t bytes has fits = let within = has.window in ap (λ n. n - (t.from + t.len)) (same_buffer t.buf t.from bytes (omega arith))
 
@@ -253,7 +253,7 @@ again_parts : (a : Action) → goes_again a ≡ true → (from : ℕ) × (len : 
 again_parts (action.Again from len) is = (from, len, refl)
 again_parts a is = absurd cc
 
--- the reply that ends what comes in, with a status behind which a driver goes on, came from an item
+-- the reply that ends what comes in, with a status after which a driver goes on, came from an item
 last_spent : (a max : ℕ) (t : Transfer) (before : List Reply) (r : Reply) (code : Code) → goes_in a ≡ true → goes_on code ≡ true
     → state_by (cond (stops_by Input max t before r) (Some (code_by Input max t before r)) None) (is_nak r) ≡ Ended code → is_spent a r ≡ true
 last_spent a max t before Ack code into on is = into

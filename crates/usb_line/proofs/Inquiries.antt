@@ -89,7 +89,7 @@ module _ (s : Scene) (rounds : List Giveback) (r : Giveback) where
   heard_one : (j : ℕ) (d : Done) → done_in s j r ≡ Some d → done_at s j (rounds ++ r ∷ []) ≡ done_at s j rounds ++ d ∷ []
   heard_one j d is = filter_map-append (done_in s j) rounds (r ∷ []) ∙ ap (λ (o : Option Done). done_at s j rounds ++ filter_map (λ (x : Giveback). o) (r ∷ [])) is
 
-  -- whether a question is out behind it
+  -- whether a question is out after it
   out_push : (j : ℕ) → is_out s j (rounds ++ r ∷ []) ≡ out_after s j (before j) r
   out_push j = fold-append (out_after s j) false rounds (r ∷ [])
 
@@ -294,7 +294,7 @@ module _ (s : Scene) (rounds : List Giveback) (r : Giveback) (h : List Entry) wh
     rests_quietly : (q ≡ None) × (asking.cores ≡ decided.cores) → r.outcome ≡ outcome.Rest → IsInquired s rounds r asking q
     rests_quietly by rest = quietly by (subst (λ x. IsPosedBy s (asking_of s r.urb) x q) (sym rest) by.0) (ap is_accepted rest)
 
-    -- a driver that asks does so behind a job
+    -- a driver that asks does so after a job
     module _ (asks : act ≡ action.Ask) where
       write : o.role ≡ Write
       write = (asks_by o.driver o.role r.status (moved_in s r) (sym acts ∙ asks)).1
@@ -496,7 +496,7 @@ module _ (run decided : LineRun) (plain : Plain) (kept : decided ≡ record run 
   pub home_in : (asking : LineRun) → asking ≡ record decided { cores = asking.cores } → (home : ℕ) → home < length run.ends.items → home < vec_len asking.ends
   home_in asking same home is = subst (λ n. home < n) (sym asking.ends.ok.0) (home_asking asking same home is)
 
--- behind what a core took note of, it is there
+-- after what a core took note of, it is there
 pub noted_there : (old new : List Core) (o : Option Owner) (may : Bool) (status : Code) (t : Transfer) (act : Action) → Noted old new o may status t act → CanInquire new o
 noted_there old new None may status t act noted = tt
 noted_there old new (Some o) may status t act noted =

@@ -113,7 +113,7 @@ module _ (s : Scene) (good : IsWellFormed s) (f : Progress) (run : IsLineRun s f
   abbrev entries : List Entry
   entries = kills_of (main_pass s) urbs kills.marks kills.rests ++ flat_map (seen_quiet (main_pass s)) urbs
 
-  -- what main's part gains behind the calls is the close
+  -- what main's part gains after the calls is the close
   main_last : part_of longer.0 (main_pass s) ≡ entries
   main_last = append_cancel_left (part_of called.history (main_pass s)) (part_of longer.0 (main_pass s)) entries
       (sym (filter-append (λ x. eqb x.pass (main_pass s)) called.history longer.0) ∙ (ap (λ k. part_of k (main_pass s)) (sym longer.1) ∙ made.own))

@@ -155,7 +155,7 @@ module _ (s : Scene) (good : IsWellFormed s) (f : Progress) (run out_run on : Li
   mid_same : SameElse run on
   mid_same = record { plain = moves.same.plain ∙ out.same.plain; told = moves.same.told ∙ out.same.told; host = moves.same.host ∙ out.same.host; cores = moves.same.cores ∙ out.same.cores }
 
-  -- as much stands behind its window
+  -- as much stands after its window
   stood : behind now ≡ behind t
   stood = ap behind moved_now ∙ (moved_behind (shape_at s e) start (had_after s f e start n) has.sent_window ∙ sym (ap behind has.moving.moving ∙ moved_behind (shape_at s e) start (replies_had s f u) has.sent_window))
 

@@ -94,7 +94,7 @@ owner_urb : (s : Scene) (u : ℕ) (o : Owner) (is : owner_of s u ≡ Some o) →
 owner_urb s u o is = let b = owner_bound s u o is in role_has u b.0 o.role b.3
 
 module _ (s : Scene) (good : IsWellFormed s) where
-  -- drivers' URBs stand behind the scene's own
+  -- drivers' URBs stand after the scene's own
   pub owner_behind : (u : ℕ) (o : Owner) → owner_of s u ≡ Some o → length s.urbs ≤ u
   owner_behind u o is = let b = owner_bound s u o is in (facts.bound_near s good o.place b.0 o.role (record { 0 = u }) b.1 (owner_urb s u o is)).0
 

@@ -140,6 +140,6 @@ module _ (s : Scene) where
     bare = λ u. tt;
   }
 
-  -- what holds between blocks holds behind the reads
+  -- what holds between blocks holds after the reads
   pub begun_serves : IsWellFormed s → Serves s (begun s)
   begun_serves good = others_serve s at_start (main_pass s) (opening s) (main_not_server s) (reads_pass (urb_count s)) (reads_follow good (urb_count s) (omega arith)) (reads_bare (urb_count s)) start_serves

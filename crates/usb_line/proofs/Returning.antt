@@ -78,7 +78,7 @@ module _ (s : Scene) (f : Progress) (r : Giveback) where
   abbrev give_next : Entry
   give_next = entry SERVER (Give record { 0 = r.urb }) (Status r.status) None
 
-  -- behind the Give of an URB there are only what its handler does, and its End
+  -- after the Give of an URB there are only what its handler does, and its End
   handler_episodes : (m : List Entry) (o : Outcome) → episodes_after m (handled_by s r.urb (moved_in s r) (resent s r) (asking_of s r.urb) o ++ plain_entry SERVER (End record { 0 = r.urb }) ∷ []) ≡ []
   handler_episodes m outcome.Rest = refl
   handler_episodes m (outcome.Again Zero) = refl
@@ -167,7 +167,7 @@ module _ (s : Scene) (f : Progress) (r : Giveback) where
   pub still_sent : (v : ℕ) → v ≢ r.urb → IsApart v (posed s r) → sent_of g.history v ≡ sent_of h v
   still_sent v off apart = giveback_sent s h r v apart ∙ ap (λ b. cond (b && resubmits r.outcome) (Some (resent s r)) (sent_of h v)) (ne_eqb r.urb v (λ i. off (sym i)))
 
-  -- what its endpoint was asked is behind it
+  -- what its endpoint was asked is after it
   pub asked_own : (e : ℕ) → home s r.urb ≡ e → asked_of s e g.rounds ≡ asked_of s e f.rounds ++ asked_in s r
   asked_own e is = ap (flat_map (asked_in s)) (rounds-push e ∙ ap (λ b. rounds_at s e f.rounds ++ cond b (r ∷ []) []) (eq-eqb (home s r.urb) e is))
       ∙ (flat_map-append (asked_in s) (rounds_at s e f.rounds) (r ∷ []) ∙ ap (λ l. asked_of s e f.rounds ++ l) (append-nil (asked_in s r)))

@@ -1,4 +1,4 @@
--- The run's object behind entries that move no URB, behind a call, and once its endpoints are woken.
+-- The run's object after entries that move no URB, after a call, and once its endpoints are woken.
 use Rattle.std.proofs.Common.{ℕ, ◌≡◌, Bool, cond, Option, Some, None, List, [], ◌++◌, sym, ap, ◌∙◌, subst, refl}
 use Rattle.usb_machine.specs.declared.transfer.Transfer.{Transfer}
 use Rattle.usb_machine.specs.declared.entry.Entry.{Entry}

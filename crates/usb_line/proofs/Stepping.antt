@@ -56,7 +56,7 @@ module _ (s : Scene) (h : List Entry) (r : Giveback) where
   abbrev pub give : Entry
   give = entry SERVER (Give record { 0 = r.urb }) (Status r.status) None
 
-  -- the Give comes behind the Finish, if there is one
+  -- the Give comes after the Finish, if there is one
   pub split_given : given_after h r ≡ finished ++ give ∷ []
   split_given = go r.finished
     where

@@ -106,7 +106,7 @@ module _ (u : ℕ) where
       (λ is. subst (λ (v : ℕ). Stops (h ++ claim_entries p v rest)) is (subst IsStopping (sym (own_state u h (claim_entries p u rest) (tt, refl, (tt, refl, tt)))) record { refused = old.refused; unlinked = old.unlinked }))
       (λ off. subst IsStopping (sym (other_state v h (claim_entries p v rest) (tt, refl, (tt, refl, tt)) u off)) old)
 
--- no Link is owed behind turns
+-- no Link is owed after turns
 module _ (s : Scene) where
   pub linked_gives : (f k : Progress) → Gives s f k → AllLinked f.history → AllLinked k.history
   linked_gives f _ (unlinked v why t is) old = linked_giveback s (with_takes s f).history (round_of s (with_takes s f) v (Fault (errno_of why)) false t (replies_had s (with_takes s f) v)) (linked_takes s f.history (ends_of s) old)

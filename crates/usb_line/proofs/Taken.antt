@@ -23,7 +23,7 @@ use Rattle.usb_line.proofs.Devices.{devices_same}
 use Rattle.usb_line.proofs.Takes.{below_state, below_sent, pending_above, pending_below}
 use Rattle.usb_line.proofs.Calm.{calm_takes, linked_takes}
 
--- who was first is first still, and who comes to be first has no replies
+-- who was first is first still, and who becomes first has no replies
 longer_had : (u : ℕ) (us more : List ℕ) (l : List Reply) → (us ≡ [] → l ≡ []) → cond (is_first u (us ++ more)) l [] ≡ cond (is_first u us) l []
 longer_had u [] more l none = ap (λ l. cond (is_first u more) l []) (none refl) ∙ either (is_first u more)
   where
@@ -43,7 +43,7 @@ module _ (s : Scene) (f : Progress) (run : LineRun) (old : Shows s f run) (plain
   abbrev h : List Entry
   h = f.history
 
-  -- the pending list with what stood in the line behind it
+  -- the pending list with what stood in the line after it
   longer : (d : ℕ) → (more : List ℕ) × (pending_of (machine_of s) k.history d ≡ pending_of (machine_of s) h d ++ more)
   longer d = dite (dec_lt d (ends_of s))
       (λ l. (line_of (machine_of s) h d, pending_below s h (ends_of s) d l))

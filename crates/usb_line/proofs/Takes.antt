@@ -27,7 +27,7 @@ takes_pass e [] = tt
 takes_pass e (u ∷ us) = (refl, takes_pass e us)
 
 module _ (e : ℕ) where
-  -- a Take leaves what stood behind the line's first
+  -- a Take leaves what stood after the line's first
   pub takes_rest : (g : Machine) (u : ℕ) (us : List ℕ) (h : List Entry) → line_of g h e ≡ u ∷ us → line_of g (h ++ took e u ∷ []) e ≡ us
   takes_rest g u us h is = line_of-snoc h (took e u) g e ∙ (ap (λ b. cond b (without_first (line_of g h e)) (line_of g h e)) (eq-eqb e e refl) ∙ ap without_first is)
 
@@ -46,7 +46,7 @@ module _ (e : ℕ) where
       go [] = refl
       go (u ∷ us) = ap (λ b. fold (λ us x. line_after g e us x.event) (cond b us (u ∷ us)) (takes e us)) (eq-eqb e e refl) ∙ go us
 
-  -- what stood in the line is pending, behind what was
+  -- what stood in the line is pending, after what was
   takes_pending : (g : Machine) (us : List ℕ) (h : List Entry) → pending_of g (h ++ takes e us) e ≡ pending_of g h e ++ us
   takes_pending g us h = fold-append (λ us x. pending_after g e us x.event x.answer) [] h (takes e us) ∙ go us (pending_of g h e)
     where

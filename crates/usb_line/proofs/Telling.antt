@@ -53,7 +53,7 @@ ends_told s f run shows =
     (λ e x at. (let is = shows.each_end e x at in (λ j. record { shape = is.is j; received = record { count = is.acked.count j; first = is.acked.first j } })))
     ∙ ap (λ n. map (end_of s f.rounds) (below n)) shows.all_ends
 
--- what a core tells, whatever it has seen
+-- what a core reports, whatever it has seen
 abbrev pub Tells : Core → Told → Type 0
 Tells core t = (driver : Driver) (o : Origin) (done : List Done) → IsCore driver o done core → t ≡ told_of driver o done
 
@@ -67,7 +67,7 @@ told_longer cores old new core t are is e = subst (AreTold (cores ++ core ∷ []
   each = pairs_longer (λ k. Tells) cores old core t are.count are.each is;
 }
 
--- what the drivers of these bindings tell
+-- what the drivers of these bindings report
 told_list : (s : Scene) (rounds : List Giveback) (k : ℕ) (bindings : List Bound) (told : List Told) → length told ≡ length bindings
     → ((j : ℕ) (b : Bound) (t : Told) → slice_get bindings j ≡ Some b → slice_get told j ≡ Some t → t ≡ told_of b.driver (origin_of s (k + j)) (done_at s (k + j) rounds)) → told ≡ told_from s rounds k bindings
 told_list s rounds k [] [] long each = refl

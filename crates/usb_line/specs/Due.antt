@@ -1,4 +1,4 @@
--- The replies that are due at an endpoint, behind those that it gave.
+-- The replies that are due at an endpoint, after those that it gave.
 use Rattle.std.specs.Prelude.{ℕ, Bool, not, ◌&&◌, ◌==◌, if◌then◌else◌, List, [], ◌∷◌, ◌++◌, length, map, slice_get, slice_index_or, Option, Some, None}
 use Rattle.usb_xfer.specs.declared.script.What.TheVariants.{Stall}
 use Rattle.usb_xfer.specs.Replies.{Reply, Question}
@@ -19,7 +19,7 @@ is_ruled s e = let shape = shape_at s e in not (is_raw_at s shape.device) && (sh
 abbrev pub heard_before : Scene → ℕ → List Call
 heard_before s d = slice_index_or (probes_of s).heard d []
 
--- the reply at 00, behind these calls
+-- the reply at 00, after these calls
 abbrev pub answer_to : Option SceneDevice → List Call → Question → Reply
 answer_to None calls question = Stall
 answer_to (Some device) calls question = reply_to device.script calls (call_of 0 question)

@@ -27,7 +27,7 @@ comes_in ControlOut = false
 abbrev pub brought_bytes : Shape → Transfer → List ℕ
 brought_bytes shape t = if comes_in (direction_of shape t) then moved_bytes t else []
 
--- what the report tells of a giveback
+-- what the report prints of a giveback
 abbrev pub given_of : Scene → Giveback → Given
 given_of s r = let t = moved_in s r in
     record { urb = r.urb; status = r.status; actual = t.actual; outcome = r.outcome; bytes = brought_bytes (shape_at s (home s r.urb)) t }

@@ -122,12 +122,12 @@ pub record IsMarked (s : Scene) (f : Progress) (u : ℕ) (why : Why) (t : Transf
   pub mark : (state_of f.history u).mark ≡ Unlinked why
   pub transfer : sent_of f.history u ≡ Some t
 
--- a submit answers the fault of its shape, or what the gate says
+-- a submit answers the fault of its shape, or what the URB's gate says, which accepts or refuses it
 abbrev pub submit_answer : Option Errno → Code → Code
 submit_answer None code = code
 submit_answer (Some errno) code = Fault errno
 
--- what a handler of u that acts so behind this history is answered by the gate: where it submits u again, and where it asks
+-- what a handler of u that acts so after this history is answered by the gate: where it submits u again, and where it asks
 abbrev pub outcome_by : Scene → List Entry → ℕ → Option Asking → Action → Outcome
 outcome_by s h u asking (action.Again from len) = outcome.Again (refusal (state_of h u))
 outcome_by s h u (Some a) action.Ask = outcome.Asked (submit_answer (shape_fault (shape_at s (home s a.urb)) a.transfer) (refusal (state_of h a.urb)))

@@ -41,11 +41,11 @@ abbrev pub pass_by : ℕ → Option SceneThread → ℕ
 pass_by i None = 2 + i
 pass_by i (Some thread) = if is_hub thread then HUB else 2 + i
 
--- the pass of thread i: the hub's for the thread `hub`, and else one of its own
+-- the pass of thread i: the hub's, which is the host's own for all devices, for the thread `hub`, and else one of its own
 abbrev pub pass_of : Scene → ℕ → ℕ
 pass_of s i = pass_by i (slice_get s.threads i)
 
--- main's pass, which closes what is left, stands behind those of the threads
+-- main's pass, which closes what is left, stands after those of the threads
 abbrev pub main_pass : Scene → ℕ
 main_pass s = 2 + length s.threads
 
@@ -120,7 +120,7 @@ abbrev pub asking_with : Option UrbId → Option Transfer → Option Asking
 asking_with (Some urb) (Some t) = Some (record { urb = urb.0; transfer = t })
 asking_with _ _ = None
 
--- the question of the driver that has an URB, if it has one. Behind the URB that it is asked with it asks none
+-- the question of the driver that has an URB, if it has one. After the URB that it is asked with it asks none
 abbrev pub asking_by : Scene → Option Owner → Option Asking
 asking_by s None = None
 asking_by s (Some o) = if is_ctl o.role then None else asking_with o.ctl (question_by o.driver (origin_of s o.place))

@@ -52,7 +52,7 @@ use Rattle.usb_line.specs.Due.{next_due}
 abbrev pub urbs_of : Scene → List ℕ
 urbs_of s = below (urb_count s)
 
--- a call that a thread made, with its answer, and with what its entries answered that it does not tell: what the marks
+-- a call that a thread made, with its answer, and with what its entries answered that it does not report: what the marks
 -- of URBs were answered, what rested, and whether the host was down before
 pub record Doing : Type 0 where
   pub thread : ℕ
@@ -116,7 +116,7 @@ pub record IsMade (s : Scene) (d : Doing) : Type 0 where
   pub thread : d.thread < length s.threads
   pub answered : IsAnswered s d (deed_of s d.call) d.answer
 
--- whether the host is down behind a call
+-- whether the host is down after a call
 abbrev pub down_after : Bool → Deed → CallAnswer → Bool
 down_after b deed.Down told.Done = true
 down_after b deed.Up a = false
@@ -213,7 +213,7 @@ was_answered s k r = option_map_or (λ (o : Owner). o.place == k && is_answer o.
 abbrev pub out_after : Scene → ℕ → Bool → Giveback → Bool
 out_after s k out r = if was_answered s k r then false else out || was_asked s k r
 
--- whether it is out behind these givebacks: asked, and not back yet
+-- whether it is out after these givebacks: asked, and not back yet
 abbrev pub is_out : Scene → ℕ → List Giveback → Bool
 is_out s k rounds = fold (out_after s k) false rounds
 
@@ -250,7 +250,7 @@ done_in s k r =
 abbrev pub done_at : Scene → ℕ → List Giveback → List Done
 done_at s k rounds = filter_map (done_in s k) rounds
 
--- what the drivers of these bindings tell, of which the first has this place
+-- what the drivers of these bindings report, of which the first has this place
 abbrev pub told_from : Scene → List Giveback → ℕ → List Bound → List Told
 told_from s rounds k [] = []
 told_from s rounds k (b ∷ bindings) = told_of b.driver (origin_of s k) (done_at s k rounds) ∷ told_from s rounds (k + 1) bindings
@@ -288,7 +288,7 @@ abbrev pub is_first : ℕ → List ℕ → Bool
 is_first u [] = false
 is_first u (v ∷ vs) = v == u
 
--- whether each Give of these entries behind a history is of the first pending URB
+-- whether each Give of these entries after a history is of the first pending URB
 abbrev pub first_given : Machine → List Entry → Event → List Bool
 first_given g before (Give u) = is_first u.0 (pending_of g before (home_of g u.0)) ∷ []
 first_given g before _ = []
@@ -323,7 +323,7 @@ seen_quiet p u = plain_entry p (Reject record { 0 = u }) ∷ plain_entry p (Quie
 abbrev pub closing : Scene → List Code → List (Option ℕ) → List Entry
 closing s marks rests = kills_of (main_pass s) (urbs_of s) marks rests ++ flat_map (seen_quiet (main_pass s)) (urbs_of s)
 
--- main submits the drivers' reads before the threads begin, and closes with these answers behind all that they did
+-- main submits the drivers' reads before the threads begin, and closes with these answers after all that they did
 pub record IsFramed (s : Scene) (h : List Entry) : Type 0 where
   pub marks : List Code
   pub rests : List (Option ℕ)

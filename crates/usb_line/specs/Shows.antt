@@ -79,7 +79,7 @@ abbrev pub asked_now : Scene → Progress → ℕ → List Question
 asked_now s f e = asked_by s f e (first_sent s f e)
 
 -- the device heard these calls: at each of its endpoints as many as the endpoint was asked in the run, and at one that answers
--- by rules those questions, behind what it heard before. One of a class was told of no halt
+-- by rules those questions, after what it heard before. One of a class was asked for no halt
 pub record ShowsDevice (s : Scene) (f : Progress) (d : ℕ) (scripted : Scripted) : Type 0 where
   pub device : SceneDevice
   pub at : slice_get s.devices d ≡ Some device
@@ -134,7 +134,7 @@ pub record IsStood (plain : Plain) : Type 0 where
 abbrev pub rank : Option Owner → ℕ
 rank o = option_map_or (λ (o : Owner). if is_ctl o.role then 1 else 2) o 2
 
--- how many bytes of the buffer stand behind the window
+-- how many bytes of the buffer stand after the window
 abbrev pub behind : Transfer → ℕ
 behind t = length t.buf - (t.from + t.len)
 
@@ -142,7 +142,7 @@ abbrev pub held : Option Owner → Option Transfer → ℕ
 held o None = 0
 held o (Some t) = rank o + behind t
 
--- at most so many turns give something back: what a driver reads again has used an item, and a job goes on behind its window
+-- at most so many turns give something back: what a driver reads again has used an item, and a job goes on after its window
 abbrev pub turns_left : LineRun → ℕ
 turns_left run = sum_by (λ (row : UrbRow). row.again + held row.owner row.transfer) run.urbs.items + sum_by items_left run.devices.items
 

@@ -57,8 +57,8 @@ fn resubmit(plain: &mut Plain, urb: UrbId, number: u64) -> Code
     code
 }
 
-/// A question of a driver, which it did not ask before: the place of its binding, the URB that it is asked with, its transfer,
-/// and why the URB's endpoint does not take it, if it does not.
+/// A driver-initiated transfer about to be submitted (printer: GET_PORT_STATUS): the place of its binding, the URB that it is
+/// asked with, its transfer, and why the URB's endpoint does not take it, if it does not.
 #[derive(Drop)]
 pub struct Inquiry {
     pub place: u32,

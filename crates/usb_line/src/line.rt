@@ -29,7 +29,7 @@ use usb_types::{Buf, List, Memory};
 pub struct LineOutcome {
     pub made: List<CallMade>,
     pub given: List<Given>,
-    /// Of each binding, by its place, what its driver tells.
+    /// Of each binding, by its place, what its driver reports.
     pub told: List<Told>,
     /// Of each endpoint, by its number.
     pub ends: List<EndReceived>,
@@ -49,7 +49,7 @@ fn received(alloc: Global, ends: Vec<EndRow>) -> Result<List<EndReceived>, Memor
     Ok(list)
 }
 
-// What each core tells.
+// What each core reports.
 fn told(alloc: Global, cores: Vec<Core>) -> Result<List<Told>, Memory>
     ensures { IfOk result (λ list. (s : Scene) (rounds : List Giveback) → ShowsCores s rounds cores.items → list ≡ drivers_told s rounds) }
 {

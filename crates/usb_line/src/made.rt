@@ -56,7 +56,7 @@ pub enum Outcome {
     Asked(Code),
 }
 
-/// What a Give gave back, as the report tells it.
+/// What a Give gave back, as the report prints it.
 #[derive(Drop)]
 pub struct Given {
     /// The URB's number.

@@ -16,7 +16,7 @@ pub struct Owner {
     pub driver: Driver,
     /// What it has the URB for.
     pub role: Role,
-    /// How many bytes a read has that the driver keeps with it, if it does.
+    /// Buffer size in bytes of the driver's standing read; None if it has none.
     pub size: Option<u32>,
     /// The driver's URB for control transfers, if it has one.
     pub ctl: Option<UrbId>,

@@ -102,7 +102,7 @@ fn setup(call: &Call) -> Option<[u8; 8]>
     }
 }
 
-// How many of so many bytes are the window of a call.
+// Length of a call's first window, of so many bytes.
 fn window(call: &Call, len: u32) -> u32
     ensures { result ≡ window_by call.now.target call.now len }
 {
@@ -130,7 +130,7 @@ fn transfer(said: Said, call: &Call, buf: Buf) -> Transfer
     }
 }
 
-/// Asks the gate, and links the URB where it was accepted. Answers what the gate says.
+/// Asks the URB's gate, which accepts or refuses submits, and links the URB where it was accepted. Answers what the gate says.
 pub fn ask(plain: &mut Plain, pass: u32, urb: UrbId, number: u64) -> Code
     requires { urb.0 < urbs_of plain.old }
     ensures counts { AsMany plain.old plain.new }

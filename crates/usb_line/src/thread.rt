@@ -123,7 +123,7 @@ pub fn pass_of_thread(scene: &Scene, thread: u32) -> u32
     }
 }
 
-/// Main's pass, behind those of the threads.
+/// Main's pass, after those of the threads.
 pub fn main_pass_of(scene: &Scene) -> u32
     requires { length scene.now.threads ≤ 16 }
     ensures { result ≡ main_pass scene.now }

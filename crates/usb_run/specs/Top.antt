@@ -26,7 +26,7 @@ use Rattle.usb_run.specs.Io.{ReadsAll, ReadsTooMany, WritesSome}
 abbrev pub list_of : Scene → List ℕ
 list_of s = list_text s (found_of s)
 
--- the report of a run: what its devices are found to be, its calls with their answers, its givebacks, what its drivers tell,
+-- the report of a run: what its devices are found to be, its calls with their answers, its givebacks, what its drivers report,
 -- and what its endpoints received
 abbrev pub report_of : Scene → List Doing → List Giveback → List ℕ
 report_of s doings rounds =

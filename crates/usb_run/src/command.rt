@@ -69,7 +69,7 @@ fn command_with(word: &[u8], number: &[u8]) -> Option<Command>
     }
 }
 
-/// The command that the words behind the program's name ask for, if they are in the word grammar.
+/// The command that the words after the program's name ask for, if they are in the word grammar.
 pub fn read_command(words: &[String]) -> Option<Command>
     ensures { result ≡ command_of (map string_bytes words.now) }
 {

@@ -15,7 +15,7 @@ pub enum Status {
     Done,
     /// The source failed.
     ReadFault,
-    /// The sink failed, behind some part of the text.
+    /// The sink failed, after some part of the text.
     WriteFault,
     /// The words of the command line are not in the word grammar.
     BadWords,

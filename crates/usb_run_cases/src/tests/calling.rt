@@ -63,7 +63,7 @@ fn check_call<R: Abort + AllocGlobal + Threads + Wait + Sync>(
     Ok(())
 }
 
-/// Each scene, between a front and a back, ends so and has this report behind a common beginning.
+/// Each scene, between a front and a back, ends so and has this report after a common beginning.
 pub fn check_reports<R: Abort + AllocGlobal + Threads + Wait + Sync>(
     rt: &R,
     front: &str,
@@ -79,7 +79,7 @@ pub fn check_reports<R: Abort + AllocGlobal + Threads + Wait + Sync>(
     Ok(())
 }
 
-/// The list of each scene, behind a front, goes on so behind a common beginning.
+/// The list of each scene, after a front, goes on so after a common beginning.
 pub fn check_lists<R: Abort + AllocGlobal + Threads + Wait + Sync>(
     rt: &R,
     front: &str,
@@ -93,7 +93,7 @@ pub fn check_lists<R: Abort + AllocGlobal + Threads + Wait + Sync>(
     Ok(())
 }
 
-/// The text is no scene: this is told, and nothing is written.
+/// The text is no scene: this is reported, and nothing is written.
 pub fn check_fault<R: Abort + AllocGlobal + Threads + Wait + Sync>(
     rt: &R,
     scene: Vec<u8>,
@@ -108,7 +108,7 @@ pub fn check_fault<R: Abort + AllocGlobal + Threads + Wait + Sync>(
     Ok(())
 }
 
-/// Each text behind a front is no scene: its line and cause are told.
+/// Each text after a front is no scene: its line and cause are reported.
 pub fn check_bad<R: Abort + AllocGlobal + Threads + Wait + Sync>(
     rt: &R,
     front: &str,

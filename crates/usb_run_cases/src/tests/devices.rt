@@ -1,8 +1,8 @@
-//! Devices that are enumerated and whose interfaces are probed, as the list tells them.
+//! Devices that are enumerated and whose interfaces are probed, as the list prints them.
 use crate::tests::calling::check_lists;
 use std::test::Fail;
 
-// Behind the header and a device `k` of the keyboard's kind, each of these lines makes the list go on so.
+// After the header and a device `k` of the keyboard's kind, each of these lines makes the list go on so.
 const KEYBOARD: &str = "scene 1\ndevice k keyboard\n";
 
 #[test]

@@ -35,7 +35,7 @@ fn a_read_goes_on_or_rests_by_its_status(rt: HostRuntime) -> Result<(), Fail> {
             "answer 81 p:0000040000000000\nthread t\nunlink k.0.in\nserve\nkill k.0.in\nkill k.0.in\n",
             "thread t\n6 unlink k.0.in -EINPROGRESS\n8 kill k.0.in buffer 2000000\n9 kill k.0.in none\ngiven\nk.0.in -ECONNRESET 0 rest -\ndriver k 0 usbkbd\n",
         ),
-        // Behind a refusal the transfer rests, whatever its status.
+        // After a refusal the transfer rests, whatever its status.
         (
             "answer 81 p:0000040000000000 p:0000000000000000\nthread t\nblock k.0.in\nserve\nunblock k.0.in\nserve\nkill k.0.in\n",
             "thread t\n6 block k.0.in ok\n8 unblock k.0.in ok\n10 kill k.0.in buffer 2000000\ngiven\nk.0.in 0 8 again -EPERM 0000040000000000\ndriver k 0 usbkbd\ndown 04 a\n",
@@ -60,7 +60,7 @@ fn a_report_comes_in_packets_of_any_size(rt: HostRuntime) -> Result<(), Fail> {
             "0705810303000A\nanswer 81 p:020004 p:000000 p:0000 p:020000 p:000000 p:000000\nthread t\nserve\n",
             "thread t\ngiven\nk.0.in 0 8 again 0 0200040000000000\nk.0.in -EOVERFLOW 6 again 0 020000000000\nk.0.in -ENOENT 0 rest -\ndriver k 0 usbkbd\ndown E1 leftshift\ndown 04 a\n",
         ),
-        // Half a report is lost with the error behind it, and the next read begins anew.
+        // Half a report is lost with the error after it, and the next read begins anew.
         (
             "0705810304000A\nanswer 81 p:00000400 error p:00000500 p:00000000 nak p:00000000 p:00000000\nthread t\nserve\nserve\n",
             "thread t\ngiven\nk.0.in -EPROTO 4 again 0 00000400\nk.0.in 0 8 again 0 0000050000000000\nk.0.in 0 8 again 0 0000000000000000\nk.0.in -ENOENT 0 rest -\ndriver k 0 usbkbd\ndown 05 b\nup 05 b\n",

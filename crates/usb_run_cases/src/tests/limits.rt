@@ -9,7 +9,7 @@ use usb_run::Status;
 
 const END: &str = "scene 1\ndevice d raw\nep 81 bulk 64 0\n";
 
-// A text with this line so many times behind a front, each with its number behind the line's first part.
+// A text with this line so many times after a front, each with its number after the line's first part.
 fn numbered(
     alloc: Global,
     front: &str,
@@ -25,7 +25,7 @@ fn numbered(
     Ok(text)
 }
 
-// A text with this piece so many times behind a front, and a back.
+// A text with this piece so many times after a front, and a back.
 fn repeated(
     alloc: Global,
     front: &str,

@@ -45,7 +45,7 @@ fn fault(alloc: Global, bytes: &[u8]) -> Option<DescFault> {
     read_config(alloc, bytes).err()
 }
 
-// The place behind the last whole descriptor of the first n bytes.
+// The place after the last whole descriptor of the first n bytes.
 fn end_before(n: usize) -> usize {
     let mut at = 0;
     for end in ENDS {

@@ -14,7 +14,7 @@ fn asked(enumerator: &Enumerator) -> Option<[u8; 8]> {
     }
 }
 
-// What the answer to the next request comes to, if there is one.
+// What the answer to the next request yields, if there is one.
 fn told(enumerator: &mut Enumerator, reply: &[u8], code: Code) -> Option<Result<(), EnumFault>> {
     if enumerator.next().is_none() {
         return None;

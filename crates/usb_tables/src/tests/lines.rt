@@ -166,7 +166,7 @@ fn bad_lines(rt: HostRuntime) -> Result<(), Fail> {
     Ok(())
 }
 
-/// Adds a word, behind a blank where it is not the first.
+/// Adds a word, after a blank where it is not the first.
 fn push_word(text: &mut Buf, word: &str) -> Result<(), Memory> {
     if !text.bytes().is_empty() {
         text.append(b" ")?;
@@ -279,7 +279,7 @@ fn push_numbers(text: &mut Buf, word: &str, numbers: &[u32]) -> Result<(), Memor
     Ok(())
 }
 
-/// What a call carries, behind its name.
+/// What a call carries, after its name.
 fn push_call(text: &mut Buf, call: &InterfaceCall) -> Result<(), Memory> {
     match call {
         InterfaceCall::Led { lights } => push_bytes(text, "led", &[*lights]),
