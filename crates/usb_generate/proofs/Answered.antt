@@ -14,7 +14,8 @@ use Rattle.usb_statement.specs.declared.statement.Statement.TheVariants as say
 use Rattle.usb_statement.specs.Statements.{is_empty}
 use Rattle.usb_statement.specs.Items.{is_reply_at, are_items_of}
 use Rattle.usb_statement.specs.Sayable.{IsSayableItem}
-use Rattle.usb_scene.specs.Rules.{SoFar, may_stand, names_stand, replies_of, all_replies}
+use Rattle.usb_scene.specs.WellFormed.{replies_of, all_replies}
+use Rattle.usb_scene.specs.Rules.{SoFar, may_stand, names_stand}
 use Rattle.usb_scene.specs.PrintedScene.{IsAllowed}
 use Rattle.usb_generate.specs.Draws.{behind, draw}
 use Rattle.usb_generate.specs.Generator.{item_place, item_at, items}

@@ -12,7 +12,8 @@ use Rattle.usb_scene.specs.declared.scene.SceneDevice.{SceneDevice}
 use Rattle.usb_scene.specs.declared.scene.SceneUrb.{SceneUrb}
 use Rattle.usb_scene.specs.declared.scene.Call.{Call}
 use Rattle.usb_scene.specs.declared.scene.Target.TheVariants as target
-use Rattle.usb_scene.specs.Rules.{SoFar, all_calls}
+use Rattle.usb_scene.specs.WellFormed.{all_calls}
+use Rattle.usb_scene.specs.Rules.{SoFar}
 use Rattle.usb_scene.specs.Growth.{grown_by, plain_call}
 use Rattle.usb_scene.specs.PrintedScene.{IsAllowed, AllowedInTurn}
 use Rattle.usb_generate.specs.Draws.{draw}

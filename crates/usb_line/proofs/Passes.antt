@@ -58,7 +58,7 @@ other_threads s good i j l m off e =
     go a.0 b.0 a.1 b.1 (is_hub a.0) (is_hub b.0) refl refl (sym (ap (pass_by i) a.1) ∙ (e ∙ ap (pass_by j) b.1))
   where
     go : (t r : SceneThread) → slice_get s.threads i ≡ Some t → slice_get s.threads j ≡ Some r → (b c : Bool) → is_hub t ≡ b → is_hub r ≡ c → number i (is_hub t) ≡ number j (is_hub r) → ⊥
-    go t r at bt true true p q e = off (good.names i j t r at bt (hub_name t p ∙ sym (hub_name r q)))
+    go t r at bt true true p q e = off (good.thread_names i j t r at bt (hub_name t p ∙ sym (hub_name r q)))
     go t r at bt true false p q e = let x : HUB ≡ 2 + j = sym (ap (number i) p) ∙ (e ∙ ap (number j) q) in absurd (omega arith)
     go t r at bt false true p q e = let x : 2 + i ≡ HUB = sym (ap (number i) p) ∙ (e ∙ ap (number j) q) in absurd (omega arith)
     go t r at bt false false p q e = let x : 2 + i ≡ 2 + j = sym (ap (number i) p) ∙ (e ∙ ap (number j) q) in let same : i ≡ j = omega arith in off same

@@ -17,8 +17,8 @@ use Rattle.usb_statement.specs.declared.keyword.UrbCall.{UrbCall}
 use Rattle.usb_statement.specs.declared.statement.Statement.{Statement}
 use Rattle.usb_statement.specs.declared.statement.Statement.TheVariants as say
 use Rattle.usb_statement.specs.Statements.{is_empty, keyword_said}
-use Rattle.usb_scene.specs.WellFormed.{is_on, held_on}
-use Rattle.usb_scene.specs.Rules.{SoFar, in_devices, is_low, may_stand, urb_target, interface_target, has_call_left, carries_within, given_len, len_in, again_in, raises, withdraws, held_now, replies_of, replies_in, all_replies, calls_in, all_calls, calls_of, last_thread}
+use Rattle.usb_scene.specs.WellFormed.{is_on, held_on, replies_of, replies_in, all_replies, calls_in, all_calls}
+use Rattle.usb_scene.specs.Rules.{SoFar, in_devices, is_low, may_stand, urb_target, interface_target, has_call_left, carries_within, given_len, len_in, again_in, raises, withdraws, held_now, calls_of, last_thread}
 use Rattle.usb_scene.specs.Growth.{bare_device, end_said, with_end, with_bytes, with_port, with_answers, urb_said, plain_call, urb_call_code, bare_call_code, interface_call, with_call, scene_calls, last_changed, scene_with, replies_said, calls_said}
 use Rattle.usb_scene.specs.Counts.{next_count, changed, counts_behind, AreFair, AreCounted, IsDraft}
 use Rattle.usb_scene.specs.Named.{found_with, called_target}
@@ -119,11 +119,11 @@ call_room s c n some left room =
     omega (arith, room, ltb-true (all_calls s) 4096 left, sum_by-on_last calls_in (with_call c) 1 (λ (t : SceneThread). length_push t.calls c) s.threads some)
 
 -- few devices and URBs, and so many replies and calls may still come
-record HasRoom (s : Scene) (more_replies more_calls : ℕ) : Type 0 where
-  devices : length s.devices ≤ 16
-  urbs : length s.urbs ≤ 256
-  replies : more_replies + all_replies s ≡ 65536
-  calls : more_calls + all_calls s ≡ 4096
+pub record HasRoom (s : Scene) (more_replies more_calls : ℕ) : Type 0 where
+  pub devices : length s.devices ≤ 16
+  pub urbs : length s.urbs ≤ 256
+  pub replies : more_replies + all_replies s ≡ 65536
+  pub calls : more_calls + all_calls s ≡ 4096
 
 -- a line that changes a device and gives no answers
 device_room : (s : Scene) (f : SceneDevice → SceneDevice) (r c : ℕ) → ((d : SceneDevice) → replies_in (f d) ≡ replies_in d) → HasRoom s r c
@@ -149,7 +149,7 @@ call_made s c r n some left room = record {
   calls = call_room s c n some left room.calls;
 }
 
-room_with : (s : SoFar) (r c line : ℕ) (said : Statement) → HasRoom s.scene r c → may_stand s.scene (keyword_said said) ≡ true → IsAllowed s said
+pub room_with : (s : SoFar) (r c line : ℕ) (said : Statement) → HasRoom s.scene r c → may_stand s.scene (keyword_said said) ≡ true → IsAllowed s said
     → HasRoom (scene_with s.scene line said) (r - replies_said said) (c - calls_said said)
 room_with s r c line (say.Device name kind) room place allowed = record {
   devices = omega (arith, ltb-true (length s.scene.devices) 16 allowed.within, length_push s.scene.devices (bare_device name kind));

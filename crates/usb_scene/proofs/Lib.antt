@@ -6,6 +6,7 @@ mod Devices
 mod Drafts
 mod Examples
 mod FirstBad
+mod GoodLines
 mod HeldCounts
 mod Naming
 mod Placed

@@ -62,6 +62,22 @@ all_last {X} P Q f (x ∷ y ∷ xs) some h keep change =
 abbrev pub Once : {X K : Type 0} → (X → K) → List X → Type 0
 Once {X} {K} key xs = (i j : ℕ) (a b : X) → slice_get xs i ≡ Some a → slice_get xs j ≡ Some b → key a ≡ key b → i ≡ j
 
+-- an item of a list whose last one changed, and the item that stood there
+was_there : {X K : Type 0} (key : X → K) (f : X → X) → ((x : X) → key (f x) ≡ key x) → (xs : List X) (i : ℕ) (a : X) → slice_get (on_last f xs) i ≡ Some a
+    → (b : X) × (slice_get xs i ≡ Some b) × (key b ≡ key a)
+was_there key f same [] i a e = absurd (none-some a e)
+was_there key f same (x ∷ []) zero a e = (x, refl, sym (same x) ∙ ap key (same_Some (f x) a e))
+was_there key f same (x ∷ []) (suc i) a e = absurd (none-some a e)
+was_there key f same (x ∷ y ∷ xs) zero a e = (x, refl, ap key (same_Some x a e))
+was_there key f same (x ∷ y ∷ xs) (suc i) a e = was_there key f same (y ∷ xs) i a e
+
+-- a change of the last item that keeps its key
+pub once_last : {X K : Type 0} (key : X → K) (f : X → X) → ((x : X) → key (f x) ≡ key x) → (xs : List X) → Once key xs → Once key (on_last f xs)
+once_last key f same xs h i j a b e g keys =
+    let p = was_there key f same xs i a e in
+    let q = was_there key f same xs j b g in
+    h i j p.0 q.0 p.1 q.1 (p.2 ∙ keys ∙ sym q.2)
+
 -- an item of a list that grew by one
 pub pushed_cases : {X : Type 0} (xs : List X) (x : X) (i : ℕ) (y : X) → slice_get (xs ++ x ∷ []) i ≡ Some y → (slice_get xs i ≡ Some y) ⊎ ((i ≡ length xs) × (x ≡ y))
 pushed_cases [] x zero y e = inr (refl, same_Some x y e)

@@ -9,7 +9,8 @@ use Rattle.usb_xfer.specs.declared.script.Item.{Item}
 use Rattle.usb_scene.specs.declared.scene.SceneThread.{SceneThread}
 use Rattle.usb_scene.specs.declared.scene.Call.{Call}
 use Rattle.usb_statement.specs.Statements.{is_empty}
-use Rattle.usb_scene.specs.Rules.{replies_of, calls_of}
+use Rattle.usb_scene.specs.WellFormed.{replies_of}
+use Rattle.usb_scene.specs.Rules.{calls_of}
 use Rattle.usb_scene.specs.Growth.{on_last, joined, together, with_call}
 
 pub on_last_push : {X : Type 0} (f : X → X) (xs : List X) (x : X) → on_last f (xs ++ x ∷ []) ≡ xs ++ f x ∷ []

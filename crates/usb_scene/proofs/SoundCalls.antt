@@ -1,8 +1,7 @@
 -- A call without a cause against it leaves the scene well formed.
-use Rattle.std.proofs.Common.{◌≡◌, ℕ, ◌<◌, ◌≤◌, ◌^◌, inl, inr, true, false, cond, List, [], ◌∷◌, ◌++◌, length, zero, suc, Option, Some, None, refl, sym, ap, ◌∙◌, arith, subst, lit≤}
+use Rattle.std.proofs.Common.{◌≡◌, ℕ, ◌<◌, ◌≤◌, ◌^◌, inl, inr, true, false, cond, List, [], ◌∷◌, ◌++◌, length, Option, Some, None, refl, sym, ap, ◌∙◌, arith, subst, lit≤}
 use Rattle.std.specs.Prelude.{◌≢◌, nat_le, nat_lt, slice_get, codes}
 use Rattle.std.specs.List.{All}
-use Rattle.std.specs.Option.{option_map}
 use Rattle.std.specs.Str.{bytes_eq}
 use Rattle.std.proofs.lemmas.Bool.{and_parts, leb-true, true≢false}
 use Rattle.std.proofs.lemmas.List.Elements.{All-nil, All-push, All-weaker}
@@ -22,19 +21,34 @@ use Rattle.usb_statement.specs.declared.interface_call.InterfaceCall.TheVariants
 use Rattle.usb_statement.specs.declared.statement.Statement.TheVariants as say
 use Rattle.usb_statement.specs.Sayable.{IsCarried}
 use Rattle.usb_statement.specs.Statements.{is_empty}
-use Rattle.usb_scene.specs.WellFormed.{HasEnd, HasDrivers, IsUrb, IsBuilt, IsBuffer, CarriesBytes, CarriesBuffer, IsCoding, IsBreak, IsCall, AreHeld, held_on, is_hub_call, IsThread, IsWellFormed}
+use Rattle.usb_scene.specs.WellFormed.{IsDevice, HasEnd, HasDrivers, IsUrb, IsBuilt, IsBuffer, CarriesBytes, CarriesBuffer, IsCoding, IsBreak, IsCall, AreHeld, held_on, is_hub_call, IsThread}
 use Rattle.usb_scene.specs.Rules.{given_len, carries_within, raises, withdraws, calls_of, last_thread, is_hub, may_call}
-use Rattle.usb_scene.specs.Growth.{on_last, plain_call, urb_call_code, bare_call_code, interface_call_code, interface_call, with_call, scene_calls}
+use Rattle.usb_scene.specs.Growth.{plain_call, urb_call_code, bare_call_code, interface_call_code, interface_call, with_call, scene_calls}
 use Rattle.usb_scene.specs.Counts.{AreFair}
 use Rattle.usb_scene.proofs.HeldCounts.{urb_call, quiet_submit, quiet_alone, quiet_interface, fair_quiet, fair_said}
 use Rattle.usb_scene.proofs.Scripts.{held_calmly, held_said, held_none}
 use Rattle.usb_scene.proofs.Scenes.{length-on_last}
-use Rattle.usb_statement.proofs.SaidWords.{option_map_some}
-use Rattle.usb_scene.proofs.Pushed.{all_last, Once}
+use Rattle.usb_scene.proofs.Pushed.{Each, all_last, Once, once_last}
 
--- a scene that is well formed and whose scripts withdraw no more than they raise
+abbrev pub IsNotServer : SceneThread → Type 0
+IsNotServer thread = bytes_eq thread.name (codes "server") ≡ false
+
+-- all that `IsWellFormed` says but the totals
+pub record IsFormed (s : Scene) : Type 0 where
+  pub few_devices : length s.devices ≤ 16
+  pub few_urbs : length s.urbs ≤ 256
+  pub few_threads : length s.threads ≤ 16
+  pub devices : Each IsDevice s.devices
+  pub urbs : All (IsUrb s) s.urbs
+  pub threads : All (IsThread s) s.threads
+  pub device_names : Once (λ (d : SceneDevice). d.name) s.devices
+  pub urb_names : Once (λ (u : SceneUrb). u.name) s.urbs
+  pub thread_names : Once (λ (t : SceneThread). t.name) s.threads
+  pub not_server : All IsNotServer s.threads
+
+-- such a scene whose scripts withdraw no more than they raise
 pub record IsSound (s : Scene) : Type 0 where
-  pub formed : IsWellFormed s
+  pub formed : IsFormed s
   pub fair : All (λ (t : SceneThread). AreFair t.calls) s.threads
 
 pub urb_kept : (s t : Scene) → s.devices ≡ t.devices → (u : SceneUrb) → IsUrb s u → IsUrb t u
@@ -91,27 +105,6 @@ thread_with s t c thread more new held hub h = record {
 pub new_thread : (s : Scene) (name : List ℕ) → IsThread s (record { name = name; calls = [] })
 new_thread s name = record { calls = All-nil (IsCall s); held = held_none; hub = λ e. All-nil (λ (c : Call). is_hub_call c.code ≡ false) }
 
--- names of threads do not change
-names_same : (c : Call) (threads : List SceneThread) (i : ℕ)
-    → option_map (λ (t : SceneThread). t.name) (slice_get (on_last (with_call c) threads) i) ≡ option_map (λ (t : SceneThread). t.name) (slice_get threads i)
-names_same c [] i = refl
-names_same c (t ∷ []) zero = refl
-names_same c (t ∷ []) (suc i) = refl
-names_same c (t ∷ next ∷ threads) zero = refl
-names_same c (t ∷ next ∷ threads) (suc i) = names_same c (next ∷ threads) i
-
-name_at : (c : Call) (threads : List SceneThread) (i : ℕ) (a : SceneThread) → slice_get (on_last (with_call c) threads) i ≡ Some a
-    → (b : SceneThread) × (slice_get threads i ≡ Some b) × (b.name ≡ a.name)
-name_at c threads i a e =
-    option_map_some (λ (t : SceneThread). t.name) (slice_get threads i) a.name (sym (names_same c threads i) ∙ ap (option_map (λ (t : SceneThread). t.name)) e)
-    (λ b g same. (b, g, same))
-
-once_called : (c : Call) (threads : List SceneThread) → Once (λ (t : SceneThread). t.name) threads → Once (λ (t : SceneThread). t.name) (on_last (with_call c) threads)
-once_called c threads h i j a b e g same =
-    let p = name_at c threads i a e in
-    let q = name_at c threads j b g in
-    h i j p.0 q.0 p.1 q.1 (p.2 ∙ same ∙ sym q.2)
-
 -- what holds of the last script with one call more
 record IsGrown (c : Call) (thread : SceneThread) : Type 0 where
   held : AreHeld (thread.calls ++ c ∷ [])
@@ -137,7 +130,10 @@ call_sound s c some new grown h =
         urbs = All-weaker (IsUrb s) (IsUrb t) (urb_kept s t refl) s.urbs h.formed.urbs;
         threads = all_last (BothOf s) (IsThread t) (with_call c) s.threads some both (λ x p. thread_kept s t more x p.0)
             (λ x e p. let g = grown x e p in thread_with s t c x more placed g.held g.hub p.0);
-        names = once_called c s.threads h.formed.names;
+        device_names = h.formed.device_names;
+        urb_names = h.formed.urb_names;
+        thread_names = once_last (λ (x : SceneThread). x.name) (with_call c) (λ x. refl) s.threads h.formed.thread_names;
+        not_server = all_last IsNotServer IsNotServer (with_call c) s.threads some h.formed.not_server (λ x p. p) (λ x e p. p);
       };
       fair = all_last (BothOf s) (λ (x : SceneThread). AreFair x.calls) (with_call c) s.threads some both (λ x p. p.1) (λ x e p. (grown x e p).fair);
     }

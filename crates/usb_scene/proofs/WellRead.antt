@@ -1,5 +1,5 @@
 -- Every scene that is read is well formed.
-use Rattle.std.proofs.Common.{◌≡◌, ℕ, ◌+◌, ◌<◌, ◌≤◌, ◌^◌, Bool, true, false, cond, List, [], ◌∷◌, length, Option, Some, None, Ok, Err, Result, refl, sym, ap, ◌∙◌, arith, subst, lit≤}
+use Rattle.std.proofs.Common.{◌≡◌, ℕ, ◌+◌, ◌-◌, ◌<◌, ◌≤◌, ◌^◌, Bool, true, false, cond, List, [], ◌∷◌, length, Option, Some, None, Ok, Err, Result, refl, sym, ap, ◌∙◌, arith, subst, lit≤}
 use Rattle.std.proofs.lemmas.List.Elements.{All-nil}
 use Rattle.usb_text.specs.Lines.{raw_lines, without_return}
 use Rattle.usb_text.proofs.Known.{length-raw_lines}
@@ -9,10 +9,10 @@ use Rattle.usb_statement.specs.declared.statement.Statement.{Statement}
 use Rattle.usb_statement.specs.declared.keyword.Keyword.{Keyword}
 use Rattle.usb_scene.specs.declared.cause.Cause.{Cause}
 use Rattle.usb_scene.specs.declared.cause.Cause.TheVariants as cause
-use Rattle.usb_scene.specs.WellFormed.{IsUrb, IsThread, IsWellFormed}
+use Rattle.usb_scene.specs.WellFormed.{IsUrb, IsThread, all_replies, all_calls, IsWellFormed}
 use Rattle.usb_statement.specs.Statements.{keyword_of, keyword_said, statement_of}
 use Rattle.usb_scene.specs.Rules.{SoFar, may_stand, statement_cause}
-use Rattle.usb_scene.specs.Growth.{empty_scene, grown_by, nothing_said}
+use Rattle.usb_scene.specs.Growth.{empty_scene, scene_with, grown_by, nothing_said}
 use Rattle.usb_scene.specs.Counts.{AreFair}
 use Rattle.usb_statement.specs.Sayable.{IsSayable}
 use Rattle.usb_scene.specs.Read.{Reading, allowed, formed, in_place, is_header, grown, line_words, plain_read, ended, then_on, lines_read, scene_of}
@@ -20,11 +20,17 @@ use Rattle.usb_scene.proofs.Placed.{place_said}
 use Rattle.usb_scene.proofs.Allowed.{IsAllowed, allowed_said}
 use Rattle.usb_statement.proofs.SaidLines.{said_sayable}
 use Rattle.usb_scene.proofs.Sound.{sound_with}
-use Rattle.usb_scene.proofs.SoundCalls.{IsSound}
+use Rattle.usb_scene.proofs.SoundCalls.{IsNotServer, IsFormed, IsSound}
+use Rattle.usb_scene.proofs.Drafts.{HasRoom, room_with}
+
+-- the totals are within their limits
+record HasTotals (s : Scene) : Type 0 where
+  replies : all_replies s ≤ 65536
+  calls : all_calls s ≤ 4096
 
 abbrev IsGood : Reading → Type 0
 IsGood None = Unit {0}
-IsGood (Some so_far) = IsSound so_far.scene
+IsGood (Some so_far) = IsSound so_far.scene × HasTotals so_far.scene
 
 -- what is known of a statement that stands on a good line
 record IsPlaced (so_far : SoFar) (said : Statement) : Type 0 where
@@ -62,33 +68,68 @@ empty_good = record {
     devices = λ d device e. cc;
     urbs = All-nil (IsUrb empty_scene);
     threads = All-nil (IsThread empty_scene);
-    names = λ i j a b e g same. cc;
+    device_names = λ i j a b e g same. cc;
+    urb_names = λ i j a b e g same. cc;
+    thread_names = λ i j a b e g same. cc;
+    not_server = All-nil IsNotServer;
   };
   fair = All-nil (λ (t : SceneThread). AreFair t.calls);
+}
+
+empty_totals : HasTotals empty_scene
+empty_totals = record { replies = lit≤ tt; calls = lit≤ tt }
+
+-- the totals behind a line
+totals_with : (so_far : SoFar) (n : ℕ) (said : Statement) → IsSound so_far.scene → HasTotals so_far.scene → IsPlaced so_far said → HasTotals (scene_with so_far.scene n said)
+totals_with so_far n said sound totals p =
+    let s = so_far.scene in
+    let room : HasRoom s (65536 - all_replies s) (4096 - all_calls s) = record {
+      devices = sound.formed.few_devices;
+      urbs = sound.formed.few_urbs;
+      replies = let few = totals.replies in omega arith;
+      calls = let few = totals.calls in omega arith;
+    } in
+    let left = room_with so_far (65536 - all_replies s) (4096 - all_calls s) n said room p.place p.allowed in
+    record { replies = omega (arith, left.replies); calls = omega (arith, left.calls) }
+
+well_formed : (s : Scene) → IsFormed s → HasTotals s → IsWellFormed s
+well_formed s h totals = record {
+  few_devices = h.few_devices;
+  few_urbs = h.few_urbs;
+  few_threads = h.few_threads;
+  few_replies = totals.replies;
+  few_calls = totals.calls;
+  devices = h.devices;
+  urbs = h.urbs;
+  threads = h.threads;
+  device_names = h.device_names;
+  urb_names = h.urb_names;
+  thread_names = h.thread_names;
+  not_server = h.not_server;
 }
 
 is_good : (a b : Reading) → IsGood a → a ≡ b → IsGood b
 is_good a b h e = subst IsGood e h
 
-grown_good : (so_far : SoFar) (n : ℕ) (read : Result Statement Cause) (next : Reading) → IsSound so_far.scene → n < 2 ^ 31
+grown_good : (so_far : SoFar) (n : ℕ) (read : Result Statement Cause) (next : Reading) → IsSound so_far.scene × HasTotals so_far.scene → n < 2 ^ 31
     → ((said : Statement) → read ≡ Ok said → IsPlaced so_far said) → grown so_far n read ≡ Ok next → IsGood next
 grown_good so_far n (Err c) next good low placed h = cc
 grown_good so_far n (Ok said) next good low placed h =
     let p = placed said refl in
-    is_good (Some (grown_by so_far n said)) next (sound_with so_far n said good p.place p.sayable p.allowed low) (cc)
+    is_good (Some (grown_by so_far n said)) next (sound_with so_far n said good.0 p.place p.sayable p.allowed low, totals_with so_far n said good.0 good.1 p) (cc)
 
 line_good : (reading : Reading) (n : ℕ) (texts : Option (List (List ℕ))) (next : Reading) → IsGood reading → n < 2 ^ 31 → plain_read reading n texts ≡ Ok next → IsGood next
 line_good reading n None next good low h = cc
 line_good reading n (Some []) next good low h = is_good reading next good (cc)
 line_good None n (Some (first ∷ rest)) next good low h =
     let a = if_ok (is_header (first ∷ rest)) (Ok (Some nothing_said)) cause.Header next h in
-    is_good (Some nothing_said) next empty_good (let e = a.1 in cc)
+    is_good (Some nothing_said) next (empty_good, empty_totals) (let e = a.1 in cc)
 line_good (Some so_far) n (Some (first ∷ rest)) next good low h =
     grown_good so_far n (in_place so_far (keyword_of first) rest) next good low (placed so_far (keyword_of first) rest) h
 
 ended_good : (reading : Reading) (n : ℕ) (scene : Scene) → IsGood reading → ended reading n ≡ Ok scene → IsWellFormed scene
 ended_good None n scene good h = cc
-ended_good (Some so_far) n scene good h = let e : so_far.scene ≡ scene = cc in subst IsWellFormed e good.formed
+ended_good (Some so_far) n scene good h = let e : so_far.scene ≡ scene = cc in subst IsWellFormed e (well_formed so_far.scene good.0.formed good.1)
 
 then_good : (n : ℕ) (texts : List (List ℕ)) (read : Result Reading Cause) (scene : Scene)
     → ((next : Reading) → read ≡ Ok next → lines_read next n texts ≡ Ok scene → IsWellFormed scene)

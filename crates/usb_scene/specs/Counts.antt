@@ -7,9 +7,9 @@ use Rattle.usb_scene.specs.declared.scene.Target.{Target}
 use Rattle.usb_statement.specs.declared.statement.Statement.{Statement}
 use Rattle.usb_statement.specs.declared.statement.Statement.TheVariants as say
 use Rattle.usb_statement.specs.declared.keyword.UrbCall.{UrbCall}
-use Rattle.usb_scene.specs.WellFormed.{is_on, raised, withdrawn, held_on}
+use Rattle.usb_scene.specs.WellFormed.{is_on, raised, withdrawn, held_on, all_replies, all_calls}
 use Rattle.usb_scene.specs.Named.{FindsUrbs}
-use Rattle.usb_scene.specs.Rules.{raises, withdraws, calls_of, last_thread, all_replies, all_calls}
+use Rattle.usb_scene.specs.Rules.{raises, withdraws, calls_of, last_thread}
 
 -- how many a map counts on an URB, none where it has no count
 abbrev pub count_in : {S : Type 0} → HashMap Target ℕ S → Target → ℕ

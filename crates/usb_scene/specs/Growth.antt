@@ -23,7 +23,8 @@ use Rattle.usb_statement.specs.declared.keyword.BareCall.{BareCall}
 use Rattle.usb_statement.specs.declared.keyword.BareCall.TheVariants as bare
 use Rattle.usb_statement.specs.declared.interface_call.InterfaceCall.{InterfaceCall}
 use Rattle.usb_statement.specs.declared.interface_call.InterfaceCall.TheVariants as made
-use Rattle.usb_scene.specs.Rules.{SoFar, device_number, urb_target, interface_target, is_short, len_in, again_in, replies_of}
+use Rattle.usb_scene.specs.WellFormed.{replies_of}
+use Rattle.usb_scene.specs.Rules.{SoFar, device_number, urb_target, interface_target, is_short, len_in, again_in}
 
 -- a scene of version 1 with nothing in it
 abbrev pub empty_scene : Scene

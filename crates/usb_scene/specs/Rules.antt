@@ -1,11 +1,10 @@
 -- Where a line may stand, what its device answers, what it must name, what it must not repeat, its limits, and its rules
 -- on rejects and the hub.
-use Rattle.std.specs.Prelude.{ℕ, ◌+◌, ◌-◌, Bool, true, false, ◌&&◌, ◌||◌, not, ◌==◌, nat_le, nat_lt, if◌then◌else◌, List, [], ◌∷◌, length, Option, Some, None, is_some, position, unwrap_or, slice_get, sum_by, count_by, codes}
+use Rattle.std.specs.Prelude.{ℕ, ◌+◌, ◌-◌, Bool, true, false, ◌&&◌, ◌||◌, not, ◌==◌, nat_le, nat_lt, if◌then◌else◌, List, [], ◌∷◌, length, Option, Some, None, is_some, position, unwrap_or, slice_get, count_by, codes}
 use Rattle.std.specs.List.{list_all, list_any}
 use Rattle.std.specs.Option.{option_map}
 use Rattle.std.specs.Str.{bytes_eq}
 use Rattle.usb_machine.specs.declared.layout.Shape.{Shape}
-use Rattle.usb_xfer.specs.declared.script.Answers.{Answers}
 use Rattle.usb_xfer.specs.declared.script.Item.{Item}
 use Rattle.usb_xfer.specs.declared.script.Kind.{Kind}
 use Rattle.usb_xfer.specs.declared.script.DeviceScript.{DeviceScript}
@@ -34,7 +33,7 @@ use Rattle.usb_statement.specs.declared.interface_call.InterfaceCall.TheVariants
 use Rattle.usb_scene.specs.declared.cause.Cause.{Cause}
 use Rattle.usb_scene.specs.declared.cause.Cause.TheVariants as cause
 use Rattle.usb_statement.specs.Statements.{is_empty}
-use Rattle.usb_scene.specs.WellFormed.{is_raw, is_printer, is_packet, held_on}
+use Rattle.usb_scene.specs.WellFormed.{is_raw, is_printer, is_packet, held_on, replies_of, all_replies, all_calls}
 
 -- what the lines so far say: the scene, and whether the device whose lines are being read has its `port` line
 pub record SoFar : Type 0 where
@@ -195,24 +194,6 @@ abbrev pub again_in : List UrbOption → ℕ
 again_in [] = 0
 again_in (Again n ∷ options) = n
 again_in (_ ∷ options) = again_in options
-
--- how many answers these items give
-abbrev pub replies_of : List Item → ℕ
-replies_of items = sum_by (λ (item : Item). item.times) items
-
-abbrev pub replies_in : SceneDevice → ℕ
-replies_in device = sum_by (λ (said : Answers). replies_of said.items) device.script.answers
-
--- how many answers the items of a scene give, in all
-abbrev pub all_replies : Scene → ℕ
-all_replies scene = sum_by replies_in scene.devices
-
-abbrev pub calls_in : SceneThread → ℕ
-calls_in thread = length thread.calls
-
--- how many calls the scripts of a scene have, in all
-abbrev pub all_calls : Scene → ℕ
-all_calls scene = sum_by calls_in scene.threads
 
 -- the thread whose calls are being read
 abbrev pub last_thread : Scene → Option SceneThread

@@ -1,5 +1,5 @@
 -- What reading means, apart from how it goes on from line to line, and the text of a scene's lines.
-use Rattle.std.specs.Prelude.{◌≡◌, ℕ, ◌+◌, true, List, [], ◌∷◌, ◌++◌, length, max, codes, None, Result, Ok, Err}
+use Rattle.std.specs.Prelude.{◌≡◌, ℕ, ◌+◌, true, List, [], ◌∷◌, ◌++◌, length, max, codes, Some, None, Result, Ok, Err}
 use Rattle.std.specs.List.{list_all, flat_map}
 use Rattle.usb_text.specs.Lines.{raw_lines, without_return, is_plain}
 use Rattle.usb_text.specs.Written.{AreWords, spaced}
@@ -33,6 +33,12 @@ pub record IsFirstBad (bytes : List ℕ) (n : ℕ) (c : Cause) : Type 0 where
 pub record LacksHeader (bytes : List ℕ) (n : ℕ) : Type 0 where
   pub good : AreGood None 0 (raw_lines bytes) None
   pub number : n ≡ max (length (raw_lines bytes)) 1
+
+-- all lines are good, the header is among them, and together they say this scene
+pub record HasGoodLines (bytes : List ℕ) (scene : Scene) : Type 0 where
+  pub so_far : SoFar
+  pub good : AreGood None 0 (raw_lines bytes) (Some so_far)
+  pub said : so_far.scene ≡ scene
 
 -- a line of words, and what it says
 abbrev pub Said : Type 0

@@ -31,6 +31,7 @@ pub record IsEnd (d : ℕ) (shape : Shape) : Type 0 where
   pub address : ((0 < shape.address) × (shape.address < 16)) ⊎ ((128 < shape.address) × (shape.address < 144))
   pub kind : (shape.kind ≡ Bulk) ⊎ (shape.kind ≡ Interrupt) ⊎ (shape.kind ≡ Iso)
   pub most : shape.max ≤ 1024
+  pub interval : shape.interval ≤ 255
 
 -- a packet has at most 1,024 bytes
 abbrev pub IsShort : What → Type 0
@@ -206,11 +207,42 @@ pub record IsThread (s : Scene) (thread : SceneThread) : Type 0 where
   pub held : AreHeld thread.calls
   pub hub : bytes_eq thread.name (codes "hub") ≡ false → All (λ (c : Call). is_hub_call c.code ≡ false) thread.calls
 
+-- how many answers these items give
+abbrev pub replies_of : List Item → ℕ
+replies_of items = sum_by (λ (item : Item). item.times) items
+
+abbrev pub replies_in : SceneDevice → ℕ
+replies_in device = sum_by (λ (said : Answers). replies_of said.items) device.script.answers
+
+-- how many answers the items of a scene give, in all
+abbrev pub all_replies : Scene → ℕ
+all_replies scene = sum_by replies_in scene.devices
+
+abbrev pub calls_in : SceneThread → ℕ
+calls_in thread = length thread.calls
+
+-- how many calls the scripts of a scene have, in all
+abbrev pub all_calls : Scene → ℕ
+all_calls scene = sum_by calls_in scene.threads
+
+-- no two items have one name
+abbrev pub HaveOwnNames : {X : Type 0} → (X → List ℕ) → List X → Type 0
+HaveOwnNames {X} name xs = (i j : ℕ) (a b : X) → slice_get xs i ≡ Some a → slice_get xs j ≡ Some b → name a ≡ name b → i ≡ j
+
 pub record IsWellFormed (s : Scene) : Type 0 where
   pub few_devices : length s.devices ≤ 16
   pub few_urbs : length s.urbs ≤ 256
   pub few_threads : length s.threads ≤ 16
+  -- after repeats, in the scripts of all devices
+  pub few_replies : all_replies s ≤ 65536
+  -- in the scripts of all threads
+  pub few_calls : all_calls s ≤ 4096
   pub devices : (d : ℕ) (device : SceneDevice) → slice_get s.devices d ≡ Some device → IsDevice d device
   pub urbs : All (IsUrb s) s.urbs
   pub threads : All (IsThread s) s.threads
-  pub names : (i j : ℕ) (a b : SceneThread) → slice_get s.threads i ≡ Some a → slice_get s.threads j ≡ Some b → a.name ≡ b.name → i ≡ j
+  -- devices, URBs and threads have name spaces of their own
+  pub device_names : HaveOwnNames (λ (d : SceneDevice). d.name) s.devices
+  pub urb_names : HaveOwnNames (λ (u : SceneUrb). u.name) s.urbs
+  pub thread_names : HaveOwnNames (λ (t : SceneThread). t.name) s.threads
+  -- this name is the server's
+  pub not_server : All (λ (t : SceneThread). bytes_eq t.name (codes "server") ≡ false) s.threads

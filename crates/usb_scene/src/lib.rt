@@ -18,4 +18,7 @@ pub use cause::Cause;
 pub use lines::{Line, split};
 pub use read::{SceneFault, read_scene};
 pub use scene::{Call, Scene, SceneDevice, SceneThread, SceneUrb, Target};
-pub use scene_laws::{a_printed_scene_reads_back, reports_first_bad_line, text_reads_back};
+pub use scene_laws::{
+    a_printed_scene_reads_back, first_bad_line_is_reported, good_lines_are_read, reads_good_lines,
+    reports_first_bad_line, text_reads_back,
+};

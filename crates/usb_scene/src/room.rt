@@ -1,6 +1,7 @@
 //! What is left of the limits behind a line, and what is counted and found there.
 ghost use Rattle.std.specs.Prelude.{◌≡◌, ℕ, List, ◌-◌, ◌≤◌, ◌&&◌, nat_le, if◌then◌else◌, IfOk, Some, None, length};
-ghost use Rattle.usb_scene.specs.Rules.{most_of, is_low, replies_of, len_in, again_in, given_len, carries_within};
+ghost use Rattle.usb_scene.specs.WellFormed.{replies_of};
+ghost use Rattle.usb_scene.specs.Rules.{most_of, is_low, len_in, again_in, given_len, carries_within};
 ghost use Rattle.usb_scene.specs.Growth.{replies_said, calls_said};
 ghost use Rattle.usb_scene.specs.Counts.{count_in, counts_behind};
 ghost use Rattle.usb_scene.specs.Named.{number_in, found_with};

@@ -6,11 +6,26 @@ ghost use Rattle.usb_scene.specs.Growth.{nothing_said};
 ghost use Rattle.usb_scene.specs.Read.{scene_of};
 ghost use Rattle.usb_scene.specs.PrintedScene.{AllowedInTurn, printed_text};
 ghost use Rattle.usb_statement.specs.declared.statement.Statement.{Statement};
-ghost use Rattle.usb_scene.specs.SceneLaws.{IsFirstBad, LacksHeader, Said, SaidInTurn, text_of};
+ghost use Rattle.usb_scene.specs.SceneLaws.{IsFirstBad, LacksHeader, HasGoodLines, Said, SaidInTurn, text_of};
 
 /// The line that is reported is the first bad one, with the first cause against it.
 pub fn reports_first_bad_line()
     ensures { (bytes : List ℕ) (n : ℕ) (c : Cause) → scene_of bytes ≡ Err (n, c) → IsFirstBad bytes n c ⊎ (LacksHeader bytes n × (c ≡ Cause.Header)) }
+{}
+
+/// The first bad line is reported, with the first cause against it.
+pub fn first_bad_line_is_reported()
+    ensures { (bytes : List ℕ) (n : ℕ) (c : Cause) → IsFirstBad bytes n c ⊎ (LacksHeader bytes n × (c ≡ Cause.Header)) → scene_of bytes ≡ Err (n, c) }
+{}
+
+/// What is read has no bad line, and its lines say the scene.
+pub fn reads_good_lines()
+    ensures { (bytes : List ℕ) (scene : Scene) → scene_of bytes ≡ Ok scene → HasGoodLines bytes scene }
+{}
+
+/// A text without a bad line is read, as the scene that its lines say.
+pub fn good_lines_are_read()
+    ensures { (bytes : List ℕ) (scene : Scene) → HasGoodLines bytes scene → scene_of bytes ≡ Ok scene }
 {}
 
 /// A text of lines reads as the scene that the lines say.
