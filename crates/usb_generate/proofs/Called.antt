@@ -65,7 +65,7 @@ serve_allowed devices urbs said few =
     let left = has_left devices urbs said few in
     record { sayable = tt; place = refl; no_cause = simp left }
 
--- a call, by what is told of the first number that is drawn for it
+-- a call, by what is said of the first number that is drawn for it
 call_allowed_by : (s t f : Bool) (devices : List SceneDevice) (urbs : List SceneUrb) (said : List Call) (u : ℕ) → AreNamed urbs → u < 16 → length said < 4096
     → IsAllowed (script_said devices urbs said)
     (cond s (say.Submit (Scripted (urb_name u)) None None) (cond t (say.OnUrb Unlink (Scripted (urb_name u))) (cond f (say.OnUrb Kill (Scripted (urb_name u))) (say.Alone Serve))))
@@ -91,7 +91,7 @@ length-calls : (x n : ℕ) → length (calls x n) ≡ n
 unfolding calls
 length-calls x n = length-map-range_with_len (call_at x) 0 n
 
--- m calls, from call i on, behind those before
+-- m calls, from call i on, after those before
 pub calls_allowed : (devices : List SceneDevice) (urbs : List SceneUrb) (x i m : ℕ) → AreNamed urbs → i + m ≤ 4096
     → AllowedInTurn (script_said devices urbs (calls x i)) (30 + i) (call_lines x i m) (script_said devices urbs (calls x (i + m))).scene
 unfolding call_lines

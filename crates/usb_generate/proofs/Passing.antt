@@ -24,7 +24,7 @@ is_sayable_option (Len n) = is_number n
 is_sayable_option (Again n) = is_number n
 is_sayable_option Short = true
 
--- whether a line says the statement; of some kinds of statement it does not tell
+-- whether a line says the statement; of some kinds of statement it does not say
 abbrev is_sayable : Statement → Bool
 is_sayable (say.Device name kind) = is_name name
 is_sayable (say.Ep address kind size interval) =
@@ -76,13 +76,13 @@ no_cause : (o : Option Cause) → is_none o ≡ true → o ≡ None
 no_cause None h = refl
 no_cause (Some c) h = cc
 
--- whether statements behind line n may come one after another
+-- whether statements after line n may come one after another
 abbrev pub pass : SoFar → ℕ → List Statement → Bool
 pass s n [] = true
 pass s n (x ∷ xs) =
     is_sayable x && (may_stand s.scene (keyword_said x) && (is_none (statement_cause s x) && pass (grown_by s (n + 1) x) (n + 1) xs))
 
--- what is said behind them
+-- what is said after them
 abbrev pub grown_by_all : SoFar → ℕ → List Statement → SoFar
 grown_by_all s n [] = s
 grown_by_all s n (x ∷ xs) = grown_by_all (grown_by s (n + 1) x) (n + 1) xs

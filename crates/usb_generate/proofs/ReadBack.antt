@@ -30,7 +30,7 @@ use Rattle.usb_generate.proofs.Sizes.{text_short}
 abbrev devices_said : List SceneDevice → SoFar
 devices_said said = record { scene = record { version = 1; devices = said; urbs = []; anchors = []; threads = [] }; has_port = false }
 
--- the lines of a device, behind those of the devices before it
+-- the lines of a device, after those of the devices before it
 device_0 : (a : List Item) (rest : List Statement) (last : Scene) → AreGiven a
     → AllowedInTurn (devices_said (device_of 0 a ∷ [])) 4 rest last → AllowedInTurn (devices_said []) 1 (device_lines 0 ++ say.Answer 129 a ∷ rest) last
 unfolding digits

@@ -40,7 +40,7 @@ unfoldable pub call_lines : ℕ → ℕ → ℕ → List Statement
 call_lines x i zero = []
 call_lines x i (suc m) = call_line_at x i ∷ call_lines x (i + 1) m
 
--- all lines behind the header
+-- all lines after the header
 abbrev pub all_lines : List Item → List Item → List Item → List Item → List Statement → List Statement
 all_lines a b c d calls =
     device_lines 0 ++ say.Answer 129 a ∷ device_lines 1 ++ say.Answer 129 b ∷ device_lines 2 ++ say.Answer 129 c ∷ device_lines 3 ++ say.Answer 129 d

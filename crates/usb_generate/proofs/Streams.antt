@@ -18,7 +18,7 @@ behind_behind x k (suc m) =
 draw_second : (x k n : ℕ) → draw (behind k x) 1 n ≡ draw x (k + 1) n
 draw_second x k n = let e : suc k ≡ k + 1 = omega arith in ap (λ m. draw x m n) e
 
--- behind some draws from draw k on
+-- after some draws from draw k on
 behind_more : (x k m y z : ℕ) (taken : ℕ → ℕ) → y ≡ behind k x → z ≡ behind (taken (draw y 0 8)) y → k + taken (draw x k 8) ≡ m → z ≡ behind m x
 behind_more x k m y z taken at after place =
     after ∙ ap (λ w. behind (taken (draw w 0 8)) w) at ∙ behind_behind x k (taken (draw x k 8)) ∙ ap (λ n. behind n x) place

@@ -5,11 +5,11 @@ use Rattle.std.specs.Prelude.{ℕ, zero, suc, ◌+◌, ◌*◌, ◌/◌, ◌%◌
 abbrev pub beginning : ℕ → ℕ
 beginning number = number % 2 ^ 31
 
--- what comes behind x
+-- what comes after x
 unfoldable pub next : ℕ → ℕ
 next x = (1103515245 * x + 12345) % 2 ^ 31
 
--- what comes k steps behind x
+-- what comes k steps after x
 abbrev pub behind : ℕ → ℕ → ℕ
 behind zero x = x
 behind (suc k) x = next (behind k x)

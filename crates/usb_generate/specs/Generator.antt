@@ -41,7 +41,7 @@ item_at x j = item_of (draw x (item_place x j) 8) (draw x (item_place x j + 1) 6
 unfoldable pub items : ℕ → ℕ → List Item
 items x n = map (item_at x) (range_with_len 0 n)
 
--- where the answers of device d begin, and behind the last device the calls
+-- where the answers of device d begin, and after the last device the calls
 unfoldable pub device_beginning : ℕ → ℕ → ℕ
 device_beginning x zero = x
 device_beginning x (suc d) = behind (item_place (device_beginning x d) 64) (device_beginning x d)

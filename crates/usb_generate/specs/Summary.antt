@@ -1,4 +1,4 @@
--- The line that tells how the run of a number's scene went.
+-- The line that says how the run of a number's scene went.
 use Rattle.std.specs.Prelude.{ℕ, ◌-◌, ◌^◌, min, Bool, true, false, not, List, [], ◌∷◌, count_by, sum, codes, decimal}
 use Rattle.usb_text.specs.Print.{line}
 use Rattle.usb_machine.specs.declared.event.Event.{Event}

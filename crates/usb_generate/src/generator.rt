@@ -25,7 +25,7 @@ const CALLS: u32 = 2000;
 const ADDRESS: u8 = 0x81;
 // Of a packet, in bytes.
 const MOST: u16 = 64;
-// The line of the first call, behind the header, three lines of each device, the URBs and the thread.
+// The line of the first call, after the header, three lines of each device, the URBs and the thread.
 const FIRST_CALL: u32 = 31;
 // The calls' numbers in the table of calls.
 const SUBMIT: u32 = 1;

@@ -1,4 +1,4 @@
--- What a map of counts finds, and what it finds behind a new count.
+-- What a map of counts finds, and what it finds after a new count.
 use Rattle.std.proofs.Common.{◌≡◌, ℕ, Bool, true, false, cond, eqb, List, [], ◌∷◌, Option, Some, refl, sym, ap, ◌∙◌}
 use Rattle.std.specs.Prelude.{◌&&◌, unwrap_or}
 use Rattle.std.specs.HashMap.{HashMap, get_by, UpdatesBy}

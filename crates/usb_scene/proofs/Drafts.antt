@@ -1,4 +1,4 @@
--- The room and the counts behind a line.
+-- The room and the counts after a line.
 use Rattle.std.proofs.Common.{◌≡◌, ℕ, ◌+◌, ◌-◌, ◌≤◌, Bool, true, false, cond, List, [], ◌∷◌, ◌++◌, length, Option, None, refl, sym, ap, ◌∙◌, arith}
 use Rattle.std.specs.Prelude.{nat_le, nat_lt, not, ◌&&◌, slice_get}
 use Rattle.std.proofs.lemmas.Bool.{and_parts, ltb-true, leb-true}

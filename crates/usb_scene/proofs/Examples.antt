@@ -1,4 +1,4 @@
--- Examples that the checker computes: small texts and lines, each with what is told of it.
+-- Examples that the checker computes: small texts and lines, each with what is reported of it.
 use Rattle.std.proofs.Common.{◌≡◌, [], ◌∷◌, Some, None, Err, refl}
 use Rattle.std.specs.Prelude.{codes}
 use Rattle.usb_text.specs.Lines.{is_plain}
@@ -32,7 +32,7 @@ no_such_interface : scene_of (codes "scene 1\ndevice k keyboard\nthread t\nkill 
 unfolding is_plain is_blank
 no_such_interface = refl
 
--- behind the line of a keyboard, and that of a printer
+-- after the line of a keyboard, and that of a printer
 abbrev keyboard : SoFar
 keyboard = grown_by nothing_said 2 (say.Device (codes "k") Keyboard)
 

@@ -7,7 +7,7 @@ use Rattle.usb_scene.specs.declared.scene.Scene.{Scene}
 use Rattle.usb_scene.specs.declared.cause.Cause.{Cause}
 use Rattle.usb_scene.specs.declared.cause.Cause.TheVariants as cause
 
--- as `IsFirstBad`, of lines behind n others
+-- as `IsFirstBad`, of lines after n others
 record Bad (start : Reading) (n : ℕ) (texts : List (List ℕ)) (m : ℕ) (c : Cause) : Type 0 where
   before : List (List ℕ)
   text : List ℕ

@@ -68,7 +68,7 @@ quiet_interface line v (made.Print bytes) = record { raises_none = λ u. zero_of
 quiet_interface line v made.Status = record { raises_none = λ u. zero_of (is_on u v); withdraws_none = λ u. zero_of (is_on u v) }
 quiet_interface line v made.SoftReset = record { raises_none = λ u. zero_of (is_on u v); withdraws_none = λ u. zero_of (is_on u v) }
 
--- the rejects behind one call more
+-- the rejects after one call more
 pub held_push : (u : Target) (calls : List Call) (c : Call)
     → held_on u (calls ++ c ∷ []) ≡ (sum_by (raised u) calls + raised u c) - (sum_by (withdrawn u) calls + withdrawn u c)
 held_push u calls c = omega (arith, sum_by_push (raised u) calls c, sum_by_push (withdrawn u) calls c)
@@ -141,7 +141,7 @@ pub fair_said : (call : UrbCall) (line : ℕ) (v : Target) (calls : List Call) �
     → cond (withdraws call) (nat_lt 0 (held_on v calls)) true ≡ true → AreFair (calls ++ urb_call line v call ∷ [])
 fair_said call line v calls fair held u = fair_at call line v u calls (is_on u v) fair held refl
 
--- no more than 100 are held behind it
+-- no more than 100 are held after it
 pub next_most : (call : UrbCall) (n : ℕ) → n ≤ 100 → cond (raises call) (nat_lt n 100) true ≡ true → next_count call n ≤ 100
 next_most on.Unlink n h free = h
 next_most on.Kill n h free = h

@@ -1,4 +1,4 @@
--- What a map of names finds behind a new name.
+-- What a map of names finds after a new name.
 use Rattle.std.proofs.Common.{◌≡◌, ℕ, ◌+◌, ◌≤◌, Bool, true, false, cond, eqb, List, [], ◌∷◌, ◌++◌, length, Option, Some, None, refl, sym, ap, ◌∙◌, arith}
 use Rattle.std.specs.Prelude.{position, is_some, nat_lt, not}
 use Rattle.std.specs.List.{position_or_len}
@@ -70,7 +70,7 @@ last_number true find name other n new e =
     sym (cond-false (is_some (find other)) (find other) (Some n) none)
 last_number false find name other n new e = sym (kept_found (find other))
 
--- URBs are found behind a line
+-- URBs are found after a line
 pub found_behind : (s : SoFar) (line : ℕ) (said : Statement) (find : List ℕ → Option ℕ) → IsAllowed s said → FindsUrbs s.scene find
     → (other : List ℕ) → found_with s.scene said find other ≡ urb_number (scene_with s.scene line said) other
 found_behind s line (say.Device name kind) find allowed h other = h other

@@ -5,7 +5,7 @@ use Rattle.usb_text.specs.Lines.{raw_lines, without_return}
 use Rattle.usb_scene.specs.Read.{Reading, lines_read, plain_read, line_words, then_on, ended, scene_of}
 use Rattle.usb_scene.specs.declared.cause.Cause.{Cause}
 
--- behind a good line the reading goes on
+-- after a good line the reading goes on
 pub read_on : (reading next : Reading) (n : ℕ) (rest bytes text behind : List ℕ) → lines_read reading n (raw_lines rest) ≡ scene_of bytes
     → raw_lines rest ≡ text ∷ raw_lines behind → plain_read reading (n + 1) (line_words (without_return text)) ≡ Ok next
     → lines_read next (n + 1) (raw_lines behind) ≡ scene_of bytes

@@ -75,7 +75,7 @@ joined_push said [] x = refl
 joined_push said (a ∷ []) x = refl
 joined_push said (a ∷ b ∷ xs) x = ap (λ ys. a ∷ ys) (joined_push said (b ∷ xs) x)
 
--- answers at another address stand behind the last ones
+-- answers at another address stand after the last ones
 pub joined_other : (said : Answers) (xs : List Answers) (last : Answers) → eqb last.address said.address ≡ false
     → joined said (xs ++ last ∷ []) ≡ (xs ++ last ∷ []) ++ said ∷ []
 joined_other said xs last other =
@@ -84,7 +84,7 @@ joined_other said xs last other =
 abbrev said_in : Answers → ℕ
 said_in said = replies_of said.items
 
--- answers behind others add their replies
+-- answers after others add their replies
 joined_last : (t : Bool) (said last : Answers)
     → sum_by said_in (cond t (together last said ∷ []) (last ∷ said ∷ [])) ≡ sum_by said_in (last ∷ []) + replies_of said.items
 joined_last true said last =

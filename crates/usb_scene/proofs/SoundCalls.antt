@@ -181,7 +181,7 @@ bare_codes bare.Serve = lit≤ tt
 bare_codes bare.Down = lit≤ tt
 bare_codes bare.Up = lit≤ tt
 
--- a call of the hub stands in the hub's thread
+-- a call of the host as a whole, as `down`, stands in the thread `hub`
 hub_free : (s : Scene) (call : BareCall) (thread : SceneThread) → may_call s (say.Alone call) ≡ true → last_thread s ≡ Some thread
     → bytes_eq thread.name (codes "hub") ≡ false → is_hub_call (bare_call_code call) ≡ false
 hub_free s bare.Serve thread h last other = refl

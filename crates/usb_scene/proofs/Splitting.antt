@@ -33,7 +33,7 @@ refused : (lines : List Line) (n : ℕ) (c : Cause) (o : Option (List (List ℕ)
 refused lines n c None others h = let why : cause.Byte ≡ c = cc in ap (λ k. Err (n, k)) why
 refused lines n c (Some texts) others h = cc
 
--- behind a plain line the splitting goes on
+-- after a plain line the splitting goes on
 pub split_on : (lines next : List Line) (n : ℕ) (rest bytes text behind : List ℕ) → in_front lines (lines_split n (raw_lines rest)) ≡ split_of bytes
     → raw_lines rest ≡ text ∷ raw_lines behind → line_added lines (n + 1) (line_words (without_return text)) ≡ Ok next
     → in_front next (lines_split (n + 1) (raw_lines behind)) ≡ split_of bytes

@@ -26,7 +26,7 @@ plain-return = refl
 no_feed : (b : ℕ) → is_plain b ≡ true → eqb b 10 ≡ false
 no_feed b h = ne_eqb b 10 (λ e. true≢false (sym h ∙ ap is_plain e ∙ plain-feed))
 
--- a line, its line feed, and what is behind
+-- a line, its line feed, and what follows
 raw_lines-line : (line rest : List ℕ) → list_all is_plain line ≡ true → raw_lines (line ++ 10 ∷ rest) ≡ line ∷ raw_lines rest
 raw_lines-line [] rest h = refl
 raw_lines-line (b ∷ line) rest h =

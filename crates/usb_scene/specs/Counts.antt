@@ -15,15 +15,15 @@ use Rattle.usb_scene.specs.Rules.{raises, withdraws, calls_of, last_thread}
 abbrev pub count_in : {S : Type 0} → HashMap Target ℕ S → Target → ℕ
 count_in m urb = unwrap_or (get_by (λ key. is_on urb key) m) 0
 
--- how many are held behind a call, where so many were before
+-- how many are held after a call, where so many were before
 abbrev pub next_count : UrbCall → ℕ → ℕ
 next_count call n = if raises call then n + 1 else if withdraws call then n - 1 else n
 
--- the counts behind a call on an URB
+-- the counts after a call on an URB
 abbrev pub changed : UrbCall → Target → (Target → ℕ) → Target → ℕ
 changed call urb count other = if is_on urb other then next_count call (count urb) else count other
 
--- the counts behind a line that calls this URB, if any
+-- the counts after a line that calls this URB, if any
 abbrev pub counts_behind : Statement → Target → (Target → ℕ) → Target → ℕ
 counts_behind (say.Thread name) urb count other = 0
 counts_behind (say.OnUrb call name) urb count other = changed call urb count other

@@ -63,7 +63,7 @@ with_port status device = record device { script = record device.script { port =
 abbrev pub together : Answers → Answers → Answers
 together first next = record first { items = first.items ++ next.items }
 
--- answers behind others, in one list with the last where they are of one address
+-- answers after others, in one list with the last where they are of one address
 abbrev pub joined : Answers → List Answers → List Answers
 joined said [] = said ∷ []
 joined said (last ∷ []) = if last.address == said.address then together last said ∷ [] else last ∷ said ∷ []
@@ -172,13 +172,13 @@ scene_with scene line (say.OnInterface call device interface) =
     scene_calls scene (interface_call line (interface_target scene device interface) call)
 scene_with scene line statement = scene_declares scene statement
 
--- whether the device whose lines are being read has its `port` line, behind a line
+-- whether the device whose lines are being read has its `port` line, after a line
 abbrev pub port_with : Bool → Statement → Bool
 port_with has_port (say.Device name kind) = false
 port_with has_port (say.Port status) = true
 port_with has_port _ = has_port
 
--- what the lines say behind one more
+-- what the lines say after one more
 abbrev pub grown_by : SoFar → ℕ → Statement → SoFar
 grown_by so_far line statement =
     record { scene = scene_with so_far.scene line statement; has_port = port_with so_far.has_port statement }

@@ -18,7 +18,7 @@ number_in m name = get_by (λ key. bytes_eq name key.items) m
 abbrev pub FindsUrbs : Scene → (List ℕ → Option ℕ) → Type 0
 FindsUrbs scene find = (name : List ℕ) → find name ≡ urb_number scene name
 
--- what is found behind a line
+-- what is found after a line
 abbrev pub found_with : Scene → Statement → (List ℕ → Option ℕ) → List ℕ → Option ℕ
 found_with scene (say.Urb name device address options) find other = if bytes_eq name other then Some (length scene.urbs) else find other
 found_with scene _ find other = find other

@@ -64,12 +64,12 @@ abbrev pub ended : Reading → ℕ → Result Scene (ℕ × Cause)
 ended (Some so_far) line = Ok so_far.scene
 ended None line = Err (max line 1, cause.Header)
 
--- a bad line ends the reading, and behind a good one it goes on
+-- a bad line ends the reading, and after a good one it goes on
 abbrev pub then_on : (Reading → Result Scene (ℕ × Cause)) → ℕ → Result Reading Cause → Result Scene (ℕ × Cause)
 then_on others line (Ok next) = others next
 then_on others line (Err c) = Err (line, c)
 
--- what is read behind line n: the first bad line and its cause, or the scene with all that the lines add
+-- what is read after line n: the first bad line and its cause, or the scene with all that the lines add
 abbrev pub lines_read : Reading → ℕ → List (List ℕ) → Result Scene (ℕ × Cause)
 lines_read reading n [] = ended reading n
 lines_read reading n (text ∷ texts) =

@@ -272,7 +272,7 @@ abbrev pub is_hub : Option SceneThread → Bool
 is_hub None = false
 is_hub (Some thread) = bytes_eq thread.name (codes "hub")
 
--- a call of the hub stands in the hub's thread
+-- a call of the host as a whole, as `down`, stands in the thread `hub`
 abbrev pub may_call : Scene → Statement → Bool
 may_call scene (say.Alone bare.Down) = is_hub (last_thread scene)
 may_call scene (say.Alone bare.Up) = is_hub (last_thread scene)

@@ -44,7 +44,7 @@ pub record HasGoodLines (bytes : List ℕ) (scene : Scene) : Type 0 where
 abbrev pub Said : Type 0
 Said = List (List ℕ) × Statement
 
--- what words say behind what was said so far, against which there is no cause
+-- what words say after what was said so far, against which there is no cause
 abbrev pub said_by : SoFar → List (List ℕ) → Result Statement Cause
 said_by so_far [] = Err cause.Form
 said_by so_far (first ∷ rest) = in_place so_far (keyword_of first) rest
@@ -54,11 +54,11 @@ pub record IsSaid (so_far : SoFar) (line : Said) : Type 0 where
   pub plain : list_all is_plain (spaced line.0) ≡ true
   pub says : said_by so_far line.0 ≡ Ok line.1
 
--- lines behind line n say this, one after another, and the last of them leaves this scene
+-- lines after line n say this, one after another, and the last of them leaves this scene
 abbrev pub SaidInTurn : SoFar → ℕ → List Said → Scene → Type 0
 SaidInTurn so_far n [] last = so_far.scene ≡ last
 SaidInTurn so_far n (line ∷ lines) last = IsSaid so_far line × SaidInTurn (grown_by so_far (n + 1) line.1) (n + 1) lines last
 
--- the text of some lines, behind the header
+-- the text of some lines, after the header
 abbrev pub text_of : List Said → List ℕ
 text_of lines = codes "scene 1\n" ++ flat_map (λ line. spaced line.0 ++ 10 ∷ []) lines

@@ -16,12 +16,12 @@ abbrev pub in_front : List Line → Result (List Line) (ℕ × Cause) → Result
 in_front lines (Ok others) = Ok (lines ++ others)
 in_front lines (Err fault) = Err fault
 
--- line n, of these words, and the lines behind it
+-- line n, of these words, and the lines after it
 abbrev pub with_line : ℕ → Option (List (List ℕ)) → Result (List Line) (ℕ × Cause) → Result (List Line) (ℕ × Cause)
 with_line n None others = Err (n, cause.Byte)
 with_line n (Some texts) others = in_front (numbered n texts) others
 
--- the lines behind line n that have words, or the first line with a byte that may not stand in one
+-- the lines after line n that have words, or the first line with a byte that may not stand in one
 abbrev pub lines_split : ℕ → List (List ℕ) → Result (List Line) (ℕ × Cause)
 lines_split n [] = Ok []
 lines_split n (text ∷ texts) = with_line (n + 1) (line_words (without_return text)) (lines_split (n + 1) texts)
@@ -30,7 +30,7 @@ lines_split n (text ∷ texts) = with_line (n + 1) (line_words (without_return t
 abbrev pub split_of : List ℕ → Result (List Line) (ℕ × Cause)
 split_of bytes = lines_split 0 (raw_lines bytes)
 
--- line n behind others
+-- line n after others
 abbrev pub line_added : List Line → ℕ → Option (List (List ℕ)) → Result (List Line) Cause
 line_added lines n None = Err cause.Byte
 line_added lines n (Some texts) = Ok (lines ++ numbered n texts)

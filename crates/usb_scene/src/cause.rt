@@ -5,7 +5,7 @@ ghost use Rattle.usb_scene.specs.Causes.{cause_text};
 use std::fmt;
 use std::fmt::Display;
 
-/// A cause against a line. Of several, the first in this order is the one that is told.
+/// A cause against a line. Of several, the first in this order is the one that is reported.
 #[derive(Clone, Copy, Debug, PartialEq)]
 pub enum Cause {
     /// A byte that may not stand in a line.
@@ -24,7 +24,7 @@ pub enum Cause {
     Limit,
     /// A reject is withdrawn that the script does not hold.
     Held,
-    /// A call of the hub in another thread.
+    /// A call of the thread `hub` in another thread.
     HubOnly,
 }
 

@@ -66,7 +66,7 @@ impl Model for Draft {
     ghost invariant = { λ d. IsDraft d.scene d.more_replies d.more_calls (count_in d.rejects.counts) (number_in d.names.numbers) };
 }
 
-// Whether the device whose lines are being read has its `port` line, behind a line.
+// Whether the device whose lines are being read has its `port` line, after a line.
 fn port_behind(has_port: bool, statement: &Statement) -> bool
     ensures { result ≡ port_with has_port statement.now }
 {

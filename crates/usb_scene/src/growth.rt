@@ -112,7 +112,7 @@ fn set_port(devices: &mut List<SceneDevice>, status: u8) -> Result<(), Memory>
     }
 }
 
-// Adds answers behind others, in one list with the last where they are of one address.
+// Adds answers after others, in one list with the last where they are of one address.
 #[tactic(auto, using(crate::proofs::Scenes::joined_push, crate::proofs::Scenes::joined_other))]
 fn join(answers: &mut List<Answers>, said: Answers) -> Result<(), Memory>
     ensures { OnOk result (answers.new ≡ joined said answers.old) }

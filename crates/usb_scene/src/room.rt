@@ -1,4 +1,4 @@
-//! What is left of the limits behind a line, and what is counted and found there.
+//! What is left of the limits after a line, and what is counted and found there.
 ghost use Rattle.std.specs.Prelude.{◌≡◌, ℕ, List, ◌-◌, ◌≤◌, ◌&&◌, nat_le, if◌then◌else◌, IfOk, Some, None, length};
 ghost use Rattle.usb_scene.specs.WellFormed.{replies_of};
 ghost use Rattle.usb_scene.specs.Rules.{most_of, is_low, len_in, again_in, given_len, carries_within};
@@ -34,7 +34,7 @@ const MOST_PARITY: u32 = 4;
 // In milliseconds (PSTN 1.2 §6.3.13).
 const MOST_BREAK: u32 = 65535;
 
-/// How many more replies may come behind those of these items.
+/// How many more replies may come after those of these items.
 pub fn room_behind(items: &[Item], room: u32) -> Option<u32>
     ensures { result ≡ (if nat_le (replies_of items.now) room then Some (room - replies_of items.now) else None) }
 {
@@ -48,7 +48,7 @@ pub fn room_behind(items: &[Item], room: u32) -> Option<u32>
     Some(left)
 }
 
-/// How many replies the items behind a line may still give.
+/// How many replies the items after a line may still give.
 pub fn replies_behind(statement: &Statement, room: u32) -> u32
     ensures { result ≡ room - replies_said statement.now }
 {
@@ -58,7 +58,7 @@ pub fn replies_behind(statement: &Statement, room: u32) -> u32
     }
 }
 
-/// How many calls may still come behind a line.
+/// How many calls may still come after a line.
 pub fn calls_behind(statement: &Statement, room: u32) -> u32
     ensures { result ≡ room - calls_said statement.now }
 {
@@ -129,7 +129,7 @@ pub fn carries_within(call: &InterfaceCall) -> bool
     }
 }
 
-/// The counts of the rejects behind a line that calls this URB, if any.
+/// The counts of the rejects after a line that calls this URB, if any.
 pub fn rejects_behind(
     alloc: Global,
     rejects: Rejects,
@@ -150,7 +150,7 @@ pub fn rejects_behind(
     }
 }
 
-/// The names behind a line.
+/// The names after a line.
 pub fn names_behind(
     alloc: Global,
     scene: &Scene,

@@ -292,7 +292,7 @@ fn in_hub(scene: &Scene) -> bool
     }
 }
 
-/// Whether a call of the hub stands in the hub's thread.
+/// Whether a call of the host as a whole, as `down`, stands in the thread `hub`.
 pub fn may_call(scene: &Scene, statement: &Statement) -> bool
     ensures { result ≡ may_call scene.now statement.now }
 {
