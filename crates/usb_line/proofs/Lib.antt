@@ -75,3 +75,4 @@ pub mod Owners
 pub mod Apt
 pub mod Reading
 pub mod Inquiries
+pub mod GivenBack
