@@ -76,3 +76,8 @@ pub mod Apt
 pub mod Reading
 pub mod Inquiries
 pub mod GivenBack
+pub mod FinishedFlags
+pub mod OneStatus
+pub mod Acked
+pub mod Carrying
+pub mod Windows
