@@ -1,5 +1,5 @@
 -- A transfer that a handler submits again, where the gate accepts it, is the next that comes back with its URB.
-use Rattle.std.proofs.Common.{ℕ, zero, suc, ◌≡◌, ◌≢◌, ◌+◌, Bool, true, false, not, ◌&&◌, cond, eqb, Option, Some, None, List, [], ◌∷◌, ◌++◌, length, fold, refl, sym, ap, ◌∙◌, subst, arith, append_assoc, append-nil, eq-eqb, ne_eqb, true≢false, length-append}
+use Rattle.std.proofs.Common.{ℕ, suc, ◌≡◌, ◌≢◌, ◌+◌, Bool, true, false, not, ◌&&◌, cond, eqb, Option, Some, None, List, [], ◌∷◌, ◌++◌, length, fold, refl, sym, ap, ◌∙◌, subst, arith, append_assoc, append-nil, eq-eqb, ne_eqb, true≢false}
 use Rattle.std.specs.Prelude.{slice_get}
 use Rattle.std.specs.List.{flat_map}
 use Rattle.std.proofs.lemmas.List.Sums.{fold-append, sum_by-cons}
@@ -17,7 +17,7 @@ use Rattle.usb_machine.specs.declared.state.UrbState.{UrbState}
 use Rattle.usb_machine.specs.declared.transfer.Transfer.{Transfer}
 use Rattle.usb_machine.specs.declared.entry.Entry.{Entry}
 use Rattle.usb_machine.specs.State.{after, is_zero, refusal, accepted, unlinks, finishes, answer_of}
-use Rattle.usb_machine.specs.History.{Machine, state_of, is_of, line_of, sent_of, sent_after, ended_by, episodes_after, episodes_of}
+use Rattle.usb_machine.specs.History.{Machine, state_of, is_of, line_of, sent_of, sent_after, ended_by, episodes_after}
 use Rattle.usb_machine.specs.Calls.{entry, plain_entry, submit_entries}
 use Rattle.usb_machine.specs.Legal.{May, urb_of, end_of, IsLegal, empty, longer}
 use Rattle.usb_machine.specs.Laws.{bit, is_give, NoneGives}
@@ -28,7 +28,7 @@ use Rattle.usb_machine.proofs.Prefixes.{legal_before}
 use Rattle.usb_scene.specs.declared.scene.Scene.{Scene}
 use Rattle.usb_line.specs.declared.made.Outcome.{Outcome}
 use Rattle.usb_line.specs.declared.made.Outcome.TheVariants as outcome
-use Rattle.usb_line.specs.Prepared.{machine_of, Asking, asking_of}
+use Rattle.usb_line.specs.Prepared.{machine_of, asking_of}
 use Rattle.usb_line.specs.Run.{Doing, Giveback, IsRun, is_aside, moved_in, resent, times_back, handled_by, handler_entries, given_entries, giveback_entries, episode_of}
 use Rattle.usb_line.proofs.Givebacks.{asked_each}
 use Rattle.usb_line.proofs.Episodes.{IsNoGive, HaveNoGive}

@@ -1,5 +1,5 @@
 -- Which givebacks are of a transfer that ended by itself: the history and the givebacks say the same.
-use Rattle.std.proofs.Common.{ℕ, ◌≡◌, Bool, true, false, not, ◌&&◌, cond, eqb, ◌⊎◌, inl, inr, Option, Some, None, List, [], ◌∷◌, ◌++◌, fold, refl, sym, ap, ◌∙◌, subst, append_assoc, append-nil, eq-eqb, true≢false}
+use Rattle.std.proofs.Common.{ℕ, ◌≡◌, Bool, true, false, not, ◌&&◌, cond, eqb, None, List, [], ◌∷◌, ◌++◌, fold, refl, sym, ap, ◌∙◌, append_assoc, append-nil, eq-eqb, true≢false}
 use Rattle.std.specs.Prelude.{map, filter}
 use Rattle.std.specs.List.{flat_map}
 use Rattle.std.proofs.lemmas.List.Sums.{fold-append}
@@ -29,8 +29,8 @@ use Rattle.usb_machine.proofs.Marks.{accepts_open, mark_of_queued}
 use Rattle.usb_scene.specs.declared.scene.Scene.{Scene}
 use Rattle.usb_line.specs.declared.made.Outcome.{Outcome}
 use Rattle.usb_line.specs.declared.made.Outcome.TheVariants as outcome
-use Rattle.usb_line.specs.Prepared.{machine_of, Asking, asking_of}
-use Rattle.usb_line.specs.Run.{Doing, Giveback, IsRun, is_aside, moved_in, resent, asked_entries, handled_by, handler_entries, given_entries, giveback_entries}
+use Rattle.usb_line.specs.Prepared.{machine_of, asking_of}
+use Rattle.usb_line.specs.Run.{Doing, Giveback, IsRun, is_aside, moved_in, resent, handled_by, handler_entries, given_entries, giveback_entries}
 use Rattle.usb_line.proofs.Givebacks.{asked_each}
 
 -- whether a transfer of URB u ended by itself since its last Give

@@ -1,5 +1,5 @@
 -- An URB is given back as often as a submit of it was accepted.
-use Rattle.std.proofs.Common.{ℕ, ◌≡◌, ◌+◌, Bool, true, false, cond, eqb, List, [], ◌∷◌, ◌++◌, refl, sym, ap, ◌∙◌, arith, true≢false}
+use Rattle.std.proofs.Common.{ℕ, ◌≡◌, ◌+◌, Bool, true, false, cond, eqb, List, [], ◌∷◌, ◌++◌, refl, sym, ap, ◌∙◌, arith}
 use Rattle.std.specs.Prelude.{map}
 use Rattle.std.proofs.lemmas.List.Sums.{fold-append, sum_by-cons}
 use Rattle.usb_machine.specs.declared.event.Event.{Event}
@@ -13,7 +13,7 @@ use Rattle.usb_machine.proofs.Rooms.{queued_has_home, home_below}
 use Rattle.usb_machine.proofs.Turns.{takes_turns}
 use Rattle.usb_scene.specs.declared.scene.Scene.{Scene}
 use Rattle.usb_line.specs.Prepared.{machine_of}
-use Rattle.usb_line.specs.Run.{Doing, Giveback, IsRun, IsOver, episode_of, times_back}
+use Rattle.usb_line.specs.Run.{Doing, Giveback, IsRun, episode_of, times_back}
 use Rattle.usb_line.proofs.Episodes.{episodes-append}
 
 -- how many of these episodes are of URB u

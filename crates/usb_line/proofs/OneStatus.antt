@@ -1,5 +1,5 @@
 -- The status of a giveback is the first unlink's or the transfer's own.
-use Rattle.std.proofs.Common.{ℕ, zero, suc, ◌≡◌, ◌≢◌, Bool, true, false, not, ◌&&◌, cond, eqb, Option, Some, None, List, [], ◌∷◌, ◌++◌, length, refl, sym, ap, ◌∙◌, subst, append_assoc, append-nil, eq-eqb, ne_eqb, true≢false}
+use Rattle.std.proofs.Common.{ℕ, zero, suc, ◌≡◌, Bool, true, false, cond, eqb, Option, Some, None, List, [], ◌∷◌, ◌++◌, length, refl, sym, ap, ◌∙◌, subst, append_assoc, append-nil, eq-eqb, ne_eqb, true≢false}
 use Rattle.std.specs.Prelude.{map, slice_get, All}
 use Rattle.std.proofs.lemmas.List.Elements.{All-head, All-tail}
 use Rattle.usb_types.specs.declared.errno.Errno.TheVariants.{EBUSY, ENODEV, EPERM, ENOENT, ESHUTDOWN, EIDRM, EINPROGRESS}
@@ -7,7 +7,6 @@ use Rattle.usb_types.specs.declared.errno.Code.{Code}
 use Rattle.usb_types.specs.declared.errno.Code.TheVariants.{Zero, Fault}
 use Rattle.usb_types.specs.declared.urb.Why.{Why}
 use Rattle.usb_types.specs.declared.urb.UrbId.{UrbId}
-use Rattle.usb_types.specs.Codes.{errno_of}
 use Rattle.usb_machine.specs.declared.event.Event.{Event}
 use Rattle.usb_machine.specs.declared.event.Event.TheVariants.{Submit, Link, Take, Mark, Finish, Give, Rest, End, Reject, Withdraw, Quiet, Claim, Flag, Unflag}
 use Rattle.usb_machine.specs.declared.event.Answer.{Answer}
@@ -18,25 +17,19 @@ use Rattle.usb_machine.specs.declared.state.UrbState.{UrbState}
 use Rattle.usb_machine.specs.declared.transfer.Transfer.{Transfer}
 use Rattle.usb_machine.specs.declared.entry.Entry.{Entry}
 use Rattle.usb_machine.specs.State.{after, is_zero, is_clear, status_of, refusal, accepted, unlinks, unlinking, is_in_progress, finishes, answer_of}
-use Rattle.usb_machine.specs.History.{Machine, Episode, state_of, after_entry, is_of, line_of, pending_of, home_of, sent_of, sent_after, ended_by, episodes_after, episodes_of}
-use Rattle.usb_machine.specs.Legal.{May, Follows, Carries, urb_of, end_of, times, IsLegal, empty, longer}
-use Rattle.usb_machine.specs.Laws.{is_give, NoneGives, HasEpisode}
+use Rattle.usb_machine.specs.History.{Machine, Episode, state_of, is_of, line_of, sent_of, sent_after, ended_by, episodes_after, episodes_of}
+use Rattle.usb_machine.specs.Legal.{May, Follows, Carries, urb_of, end_of, IsLegal}
+use Rattle.usb_machine.specs.Laws.{is_give, NoneGives}
 use Rattle.usb_machine.proofs.Ends.{by_end}
 use Rattle.usb_machine.proofs.Steps.{state_of-snoc, sent_of-snoc}
 use Rattle.usb_machine.proofs.Places.{by_test}
-use Rattle.usb_machine.proofs.Marks.{accepts_open, mark_of_queued}
 use Rattle.usb_machine.proofs.Prefixes.{legal_before, follows_before}
 use Rattle.usb_machine.proofs.Rooms.{pending_is_queued}
-use Rattle.usb_xfer.specs.declared.packet.Step.TheVariants.{Ended}
-use Rattle.usb_xfer.specs.Moved.{moved_state}
 use Rattle.usb_scene.specs.declared.scene.Scene.{Scene}
-use Rattle.usb_prepare.specs.Ends.{shape_at}
-use Rattle.usb_prepare.specs.Layout.{home}
 use Rattle.usb_line.specs.Prepared.{machine_of}
 use Rattle.usb_line.specs.Run.{Doing, Giveback, IsRun, IsGiveback, episode_of}
 use Rattle.usb_line.specs.RunLaws.{IsGivenBack, is_ending, first_ending, HasStatusBy}
-use Rattle.usb_line.proofs.Episodes.{episodes-append}
-use Rattle.usb_line.proofs.FinishedFlags.{finished_of, flag_of, flags_after, flags_of, is_finished, finished_is_marked, run_flags}
+use Rattle.usb_line.proofs.FinishedFlags.{finished_of, flag_of, flags_after, is_finished, finished_is_marked, run_flags}
 
 NoneGives-append : (u : ℕ) (xs ys : List Entry) → NoneGives u xs → NoneGives u ys → NoneGives u (xs ++ ys)
 NoneGives-append u [] ys n k = k

@@ -1,6 +1,5 @@
 -- The windows of a driver's transfer follow one another.
-use Rattle.std.proofs.Common.{◌≡◌, Bool, true, false, cond, Option, Some, None, List, [], ◌∷◌, ◌++◌, refl, sym, ap, ◌∙◌, subst, append_assoc, append-nil, true≢false, if◌then◌else◌, not, ◌&&◌, ℕ, min, ◌*◌}
-use Rattle.usb_types.specs.declared.errno.Code.{Code}
+use Rattle.std.proofs.Common.{◌≡◌, Bool, true, false, Option, Some, None, List, [], ◌∷◌, ◌++◌, refl, sym, ap, ◌∙◌, subst, append_assoc, append-nil, true≢false, if◌then◌else◌, not, ◌&&◌, ℕ, min, ◌*◌}
 use Rattle.usb_types.specs.declared.errno.Code.TheVariants.{Zero}
 use Rattle.usb_types.specs.declared.urb.Action.{Action}
 use Rattle.usb_types.specs.declared.urb.Action.TheVariants.{Rest, Again, Ask}
@@ -8,7 +7,7 @@ use Rattle.usb_machine.specs.declared.transfer.Transfer.{Transfer}
 use Rattle.usb_class.specs.Handler.{action_of, window_by}
 use Rattle.usb_machine.specs.declared.layout.Shape.{Shape}
 use Rattle.usb_machine.specs.declared.entry.Entry.{Entry}
-use Rattle.usb_xfer.specs.Direction.{Direction, In, Out, ControlIn, ControlOut, is_control, goes_in, setup_in, direction_of}
+use Rattle.usb_xfer.specs.Direction.{Direction, In, Out, ControlIn, ControlOut, is_control, goes_in, setup_in}
 use Rattle.usb_xfer.specs.Replies.{Reply}
 use Rattle.usb_xfer.specs.Output.{acks}
 use Rattle.usb_xfer.specs.Moved.{moved, moved_by}
@@ -16,7 +15,6 @@ use Rattle.usb_scene.specs.declared.scene.Scene.{Scene}
 use Rattle.usb_prepare.specs.Ends.{shape_at}
 use Rattle.usb_prepare.specs.Layout.{home}
 use Rattle.usb_line.specs.declared.owner.Owner.{Owner}
-use Rattle.usb_line.specs.declared.made.Outcome.{Outcome}
 use Rattle.usb_line.specs.declared.made.Outcome.TheVariants as outcome
 use Rattle.usb_line.specs.Prepared.{owner_of, Asking, asking_of}
 use Rattle.usb_line.specs.Run.{Doing, IsRun, times_back, Giveback, moved_in, resent, resent_as, may_again, question_out, asks_or_rests, action_by, acts, IsHandled, AreHandled}

@@ -50,7 +50,7 @@ HasStatusBy s r (Some (Mark u why)) = (r.status ≡ Fault (errno_of why)) × (r.
 HasStatusBy s r (Some (Finish u code)) = (moved_state (shape_at s (home s r.urb)) r.sent r.replies ≡ Ended r.status) × (r.finished ≡ true)
 HasStatusBy s r o = ⊥
 
--- the packets that the device acknowledged, one behind the other: for each reply to this transfer, behind the replies before it,
+-- the packets that the device acknowledged, one after another: for each reply to this transfer, after the replies before it,
 -- the packet that was sent, where the reply is an Ack
 abbrev pub acked_packets : Shape → Transfer → List Reply → List Reply → List ℕ
 acked_packets shape t before [] = []

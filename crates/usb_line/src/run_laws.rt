@@ -31,7 +31,7 @@ pub fn a_status_is_the_first_unlinks_or_the_transfers()
         → (between : List Entry) × (IsGivenBack h k r between) × (HasStatusBy s r (first_ending r.urb between)) }
 {}
 
-/// An endpoint has received the packets that its replies acknowledged, one behind the other: of each giveback, where it takes
+/// An endpoint has received the packets that its replies acknowledged, one after another: of each giveback, where it takes
 /// packets, as many full ones of the window as there are Acks. Where it answers by items, its replies are the first of its script.
 pub fn an_endpoint_received_what_it_acknowledged()
     ensures packets { (s : Scene) (h : List Entry) (doings : List Doing) (rounds : List Giveback) → IsRun s h doings rounds
@@ -46,7 +46,7 @@ pub fn an_endpoint_received_what_it_acknowledged()
 /// URB, the transfer as it was moved, with the window that the driver asked for.
 pub fn a_transfer_that_goes_again_comes_back_next()
     ensures { (s : Scene) (h : List Entry) (doings : List Doing) (rounds : List Giveback) → IsRun s h doings rounds
-        → (before : List Giveback) (r : Giveback) (middle : List Giveback) (next : Giveback) (behind : List Giveback) → rounds ≡ before ++ r ∷ (middle ++ next ∷ behind)
+        → (before : List Giveback) (r : Giveback) (middle : List Giveback) (next : Giveback) (after : List Giveback) → rounds ≡ before ++ r ∷ (middle ++ next ∷ after)
         → r.outcome ≡ Again Zero → next.urb ≡ r.urb → times_back r.urb middle ≡ 0 → next.sent ≡ resent s r }
 {}
 
@@ -54,7 +54,7 @@ pub fn a_transfer_that_goes_again_comes_back_next()
 /// bytes, and the window that the driver asked for: of a printer, the next window of the job.
 pub fn a_drivers_windows_follow_one_another()
     ensures { (s : Scene) (h : List Entry) (doings : List Doing) (rounds : List Giveback) → IsRun s h doings rounds
-        → (before : List Giveback) (r : Giveback) (middle : List Giveback) (next : Giveback) (behind : List Giveback) → rounds ≡ before ++ r ∷ (middle ++ next ∷ behind)
+        → (before : List Giveback) (r : Giveback) (middle : List Giveback) (next : Giveback) (after : List Giveback) → rounds ≡ before ++ r ∷ (middle ++ next ∷ after)
         → r.outcome ≡ Again Zero → next.urb ≡ r.urb → times_back r.urb middle ≡ 0
         → (o : Owner) → owner_of s r.urb ≡ Some o → takes_packets (shape_at s (home s r.urb)) ≡ true
         → GoesOn (action_of o.driver o.role r.status (moved_in s r)) (moved_in s r) (moved_in s next) }
