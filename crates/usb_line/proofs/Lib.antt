@@ -78,3 +78,9 @@ pub mod Inquiries
 pub mod ExampleScenes
 mod HandlerExamples
 mod CallExamples
+pub mod GivenBack
+pub mod FinishedFlags
+pub mod OneStatus
+pub mod Acked
+pub mod Carrying
+pub mod Windows

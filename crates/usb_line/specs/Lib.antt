@@ -15,3 +15,4 @@ pub mod Turned
 pub mod Calls
 pub mod Outcome
 pub mod Sent
+pub mod RunLaws

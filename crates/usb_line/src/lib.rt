@@ -14,6 +14,7 @@ mod prepare;
 mod reads;
 mod received;
 mod run;
+mod run_laws;
 mod steps;
 mod stop;
 mod submit;
@@ -29,3 +30,8 @@ pub use laws::{a_run_in_line_order_is_a_run, a_scene_has_one_run_in_line_order};
 pub use line::{LineOutcome, run_line};
 pub use made::{CallAnswer, CallMade, Deed, Given, Outcome};
 pub use run::{EndReceived, Received};
+pub use run_laws::{
+    a_drivers_windows_follow_one_another, a_status_is_the_first_unlinks_or_the_transfers,
+    a_transfer_that_goes_again_comes_back_next, an_endpoint_received_what_it_acknowledged,
+    each_accepted_urb_is_given_back_once,
+};

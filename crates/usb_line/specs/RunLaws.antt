@@ -1,0 +1,71 @@
+-- What the laws of a run say of its givebacks.
+use Rattle.std.specs.Prelude.{ℕ, ◌≡◌, ◌*◌, Bool, true, false, not, ◌&&◌, ◌==◌, if◌then◌else◌, List, [], ◌∷◌, ◌++◌, length, take, Option, Some, None}
+use Rattle.usb_types.specs.declared.errno.Code.TheVariants.{Fault}
+use Rattle.usb_types.specs.declared.urb.Action.{Action}
+use Rattle.usb_types.specs.declared.urb.Action.TheVariants.{Rest, Again, Ask}
+use Rattle.usb_types.specs.Codes.{errno_of}
+use Rattle.usb_machine.specs.declared.layout.Shape.{Shape}
+use Rattle.usb_machine.specs.declared.event.Event.{Event}
+use Rattle.usb_machine.specs.declared.event.Event.TheVariants.{Mark, Finish}
+use Rattle.usb_machine.specs.declared.event.Answer.TheVariants.{Code as Status}
+use Rattle.usb_machine.specs.declared.transfer.Transfer.{Transfer}
+use Rattle.usb_machine.specs.declared.entry.Entry.{Entry}
+use Rattle.usb_machine.specs.History.{episodes_of}
+use Rattle.usb_machine.specs.Laws.{HasEpisode}
+use Rattle.usb_xfer.specs.declared.packet.Step.TheVariants.{Ended}
+use Rattle.usb_xfer.specs.Direction.{is_control, goes_in}
+use Rattle.usb_xfer.specs.Replies.{Reply, acked_by}
+use Rattle.usb_xfer.specs.Output.{acks}
+use Rattle.usb_xfer.specs.Control.{window_of}
+use Rattle.usb_xfer.specs.Moved.{moved, moved_state, question_of}
+use Rattle.usb_scene.specs.declared.scene.Scene.{Scene}
+use Rattle.usb_prepare.specs.Ends.{shape_at}
+use Rattle.usb_prepare.specs.Layout.{home}
+use Rattle.usb_line.specs.Run.{Giveback}
+
+-- giveback number k of a run in its history: an accepted submit of the URB with the transfer that was sent, the entries
+-- between, and the URB's next Give, which is number k of the history and answers the status
+pub record IsGivenBack (h : List Entry) (k : ℕ) (r : Giveback) (between : List Entry) : Type 0 where
+  pub give : Entry
+  pub episode : HasEpisode h r.urb r.sent.number between give
+  pub carries : episode.submit.carried ≡ Some r.sent
+  pub answers : give.answer ≡ Status r.status
+  pub place : length (episodes_of (episode.before ++ episode.submit ∷ between)) ≡ k
+
+-- whether an event is an unlink, a kill or a shutdown of URB u, or the end of its transfer
+abbrev pub is_ending : ℕ → Event → Bool
+is_ending u (Mark v why) = v.0 == u
+is_ending u (Finish v code) = v.0 == u
+is_ending u _ = false
+
+-- the first such event of these entries
+abbrev pub first_ending : ℕ → List Entry → Option Event
+first_ending u [] = None
+first_ending u (x ∷ xs) = if is_ending u x.event then Some x.event else first_ending u xs
+
+-- where an unlink, a kill or a shutdown came first, the status is that of it, and where the transfer ended first, it is the
+-- result that the replies make
+abbrev pub HasStatusBy : Scene → Giveback → Option Event → Type 0
+HasStatusBy s r (Some (Mark u why)) = (r.status ≡ Fault (errno_of why)) × (r.finished ≡ false)
+HasStatusBy s r (Some (Finish u code)) = (moved_state (shape_at s (home s r.urb)) r.sent r.replies ≡ Ended r.status) × (r.finished ≡ true)
+HasStatusBy s r o = ⊥
+
+-- the packets that the device acknowledged, one after another: for each reply to this transfer, after the replies before it,
+-- the packet that was sent, where the reply is an Ack
+abbrev pub acked_packets : Shape → Transfer → List Reply → List Reply → List ℕ
+acked_packets shape t before [] = []
+acked_packets shape t before (reply ∷ replies) = acked_by (question_of shape (moved shape t before)) reply ++ acked_packets shape t (before ++ reply ∷ []) replies
+
+-- whether an endpoint takes packets from the host
+abbrev pub takes_packets : Shape → Bool
+takes_packets shape = not (is_control shape.kind) && not (goes_in shape.address)
+
+-- as many full packets of the window as there are Acks, and not more than the window
+abbrev pub acked_window : Shape → Giveback → List ℕ
+acked_window shape r = take (shape.max * acks r.replies) (window_of r.sent)
+
+-- the transfer came back next with the window that the driver asked for, and so much of it is moved
+abbrev pub GoesOn : Action → Transfer → Transfer → Type 0
+GoesOn (Again from len) t next = next ≡ record t { from = from; len = len; actual = next.actual }
+GoesOn Rest t next = ⊥
+GoesOn Ask t next = ⊥
