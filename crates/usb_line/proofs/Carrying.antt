@@ -24,7 +24,6 @@ use Rattle.usb_machine.specs.Laws.{bit, is_give, NoneGives}
 use Rattle.usb_machine.proofs.Steps.{state_of-snoc, sent_of-snoc}
 use Rattle.usb_machine.proofs.Places.{by_test}
 use Rattle.usb_machine.proofs.Marks.{accepts_open}
-use Rattle.usb_machine.proofs.Prefixes.{legal_before}
 use Rattle.usb_scene.specs.declared.scene.Scene.{Scene}
 use Rattle.usb_line.specs.declared.made.Outcome.{Outcome}
 use Rattle.usb_line.specs.declared.made.Outcome.TheVariants as outcome
@@ -33,25 +32,26 @@ use Rattle.usb_line.specs.Run.{Doing, Giveback, IsRun, is_aside, moved_in, resen
 use Rattle.usb_line.proofs.Givebacks.{asked_each}
 use Rattle.usb_line.proofs.Episodes.{IsNoGive, HaveNoGive}
 use Rattle.usb_line.proofs.FinishedFlags.{served, is_served, single, served-snoc}
-use Rattle.usb_line.proofs.OneStatus.{IsGiveAt, give_at, nth_map}
+use Rattle.usb_line.proofs.OneStatus.{IsGiveAt, at as give_of, legal as legal_at}
+use Rattle.usb_line.proofs.GivenBack.{none_queued}
 
-abbrev first_of : Option Transfer → Option Transfer → Option Transfer
+abbrev pub first_of : Option Transfer → Option Transfer → Option Transfer
 first_of (Some t) c = Some t
 first_of None c = c
 
 -- the transfer that the server submitted with URB u since its last Give
-abbrev carried_after : ℕ → Option Transfer → ℕ → Event → Answer → Option Transfer → Option Transfer
+abbrev pub carried_after : ℕ → Option Transfer → ℕ → Event → Answer → Option Transfer → Option Transfer
 carried_after u t p (Submit v n) a c = cond (eqb v.0 u) (cond (accepted a) (cond (eqb p SERVER) (first_of t c) t) t) t
 carried_after u t p (Give v) a c = cond (eqb v.0 u) None t
 carried_after u t p _ a c = t
 
-abbrev carry : ℕ → Option Transfer → List Entry → Option Transfer
+abbrev pub carry : ℕ → Option Transfer → List Entry → Option Transfer
 carry u t xs = fold (λ t x. carried_after u t x.pass x.event x.answer x.carried) t xs
 
-abbrev carried_of : List Entry → ℕ → Option Transfer
+abbrev pub carried_of : List Entry → ℕ → Option Transfer
 carried_of h u = carry u None h
 
-carry-append : (u : ℕ) (t : Option Transfer) (h xs : List Entry) → carry u t (h ++ xs) ≡ carry u (carry u t h) xs
+pub carry-append : (u : ℕ) (t : Option Transfer) (h xs : List Entry) → carry u t (h ++ xs) ≡ carry u (carry u t h) xs
 carry-append u t h xs = fold-append (λ (t : Option Transfer) (x : Entry). carried_after u t x.pass x.event x.answer x.carried) t h xs
 
 -- and for each Give, the one that the server had submitted
@@ -134,7 +134,7 @@ pub record IsCarried (h : List Entry) (u : ℕ) : Type 0 where
   pub none : (state_of h u).queued ≡ false → carried_of h u ≡ None
   pub sent : (t : Transfer) → carried_of h u ≡ Some t → sent_of h u ≡ Some t
 
-is_carried : (g : Machine) (u : ℕ) (h : List Entry) → IsLegal g h → IsCarried h u
+pub is_carried : (g : Machine) (u : ℕ) (h : List Entry) → IsLegal g h → IsCarried h u
 is_carried g u _ empty = record { none = λ q. refl; sent = λ (t : Transfer) (is : None ≡ Some t). cc }
 is_carried g u _ (longer h x legal f) =
     let old = is_carried g u h legal in
@@ -222,7 +222,7 @@ none_of u (x ∷ xs) is = (go x.event is.0, none_of u xs is.1)
     go _ free = refl
 
 -- what was submitted stays until the next Give
-stays : (u : ℕ) (t : Transfer) (xs : List Entry) → NoneGives u xs → carry u (Some t) xs ≡ Some t
+pub stays : (u : ℕ) (t : Transfer) (xs : List Entry) → NoneGives u xs → carry u (Some t) xs ≡ Some t
 stays u t [] none = refl
 stays u t (x ∷ xs) none = ap (λ r. carry u r xs) (go x.event none.0) ∙ stays u t xs none.1
   where
@@ -269,7 +269,7 @@ module _ (s : Scene) (r : Giveback) where
       go true = (λ i. carry-append r.urb None m (finish ∷ []) i ∷ no_given ((m ++ finish ∷ []) ++ give ∷ []) (handler_entries s r) handler_no_give i)
       go false = ap (λ l. carried_of m r.urb ∷ l) (no_given (m ++ give ∷ []) (handler_entries s r) handler_no_give)
 
-  other_gives : (u : ℕ) → r.urb ≢ u → NoneGives u (giveback_entries s r)
+  pub other_gives : (u : ℕ) → r.urb ≢ u → NoneGives u (giveback_entries s r)
   other_gives u off = go r.finished
     where
       go : (b : Bool) → NoneGives u (given_entries r.urb r.status b ++ handler_entries s r)
@@ -277,7 +277,7 @@ module _ (s : Scene) (r : Giveback) where
       go false = (ne_eqb r.urb u off, none_of u (handler_entries s r) handler_no_give)
 
   -- a handler that submits again leaves the transfer that it submits
-  leaves : r.outcome ≡ outcome.Again Zero → (t : Option Transfer) → carry r.urb t (giveback_entries s r) ≡ Some (resent s r)
+  pub leaves : r.outcome ≡ outcome.Again Zero → (t : Option Transfer) → carry r.urb t (giveback_entries s r) ≡ Some (resent s r)
   leaves did t = ap (λ o. carry r.urb t (given_entries r.urb r.status r.finished ++ (handled_by s r.urb (moved_in s r) (resent s r) (asking_of s r.urb) o ++ plain_entry SERVER (End record { 0 = r.urb }) ∷ []))) did ∙ go r.finished
     where
       go : (b : Bool) → carry r.urb t (given_entries r.urb r.status b ++ (submit_entries SERVER r.urb (resent s r) Zero ++ plain_entry SERVER (End record { 0 = r.urb }) ∷ [])) ≡ Some (resent s r)
@@ -318,18 +318,14 @@ nth_middle : {X : Type 0} (xs : List X) (y : X) (ys : List X) → slice_get (xs 
 nth_middle [] y ys = refl
 nth_middle (x ∷ xs) y ys = nth_middle xs y ys
 
+-- what the server had submitted before a giveback is what was sent
 module _ (s : Scene) (h : List Entry) (doings : List Doing) (rounds : List Giveback) (run : IsRun s h doings rounds)
-    (before : List Giveback) (r : Giveback) (middle : List Giveback) (next : Giveback) (behind : List Giveback)
-    (parts : rounds ≡ before ++ r ∷ (middle ++ next ∷ behind)) (did : r.outcome ≡ outcome.Again Zero) (same : next.urb ≡ r.urb) (none : times_back r.urb middle ≡ 0) where
-  abbrev front : List Giveback
-  front = before ++ r ∷ middle
+    (front : List Giveback) (next : Giveback) (behind : List Giveback) (split : rounds ≡ front ++ next ∷ behind) where
+  pub stands : slice_get rounds (length front) ≡ Some next
+  stands = ap (λ l. slice_get l (length front)) split ∙ nth_middle front next behind
 
-  split : rounds ≡ front ++ next ∷ behind
-  split = parts ∙ sym (append_assoc before (r ∷ middle) (next ∷ behind))
-
-  at : IsGiveAt [] h (length front) (episode_of next)
-  at = give_at [] h (length front) (episode_of next) (ap (λ l. slice_get l (length front)) run.gives ∙ nth_map episode_of rounds (length front) next
-      (ap (λ l. slice_get l (length front)) split ∙ nth_middle front next behind))
+  abbrev at : IsGiveAt [] h (length front) (episode_of next)
+  at = give_of s h doings rounds run (length front) next stands
 
   -- what the server had submitted, by the history
   by_history : slice_get (givens_of h) (length front) ≡ Some (carried_of at.pre next.urb)
@@ -344,6 +340,27 @@ module _ (s : Scene) (h : List Entry) (doings : List Doing) (rounds : List Giveb
   by_rounds = ap (λ l. slice_get l (length front)) ((are_served (machine_of s) h run.legal).givens ∙ (ap givens_of run.server ∙ rounds_givens s rounds []))
       ∙ (ap (λ l. slice_get (expected s [] l) (length front)) split ∙ expected_at s [] front next behind)
 
+  pub by_both : carried_of at.pre next.urb ≡ carried_of (flat_map (giveback_entries s) front) next.urb
+  by_both = let both : Some (carried_of at.pre next.urb) ≡ Some (carried_of (flat_map (giveback_entries s) front) next.urb) = sym by_history ∙ by_rounds in cc
+
+  pub sent_as : (t : Transfer) → carried_of (flat_map (giveback_entries s) front) next.urb ≡ Some t → next.sent ≡ t
+  sent_as t is =
+      let sent = (is_carried (machine_of s) next.urb at.pre (legal_at s h doings rounds run (length front) next stands)).sent t (by_both ∙ is) in
+      let same : Some next.sent ≡ Some t = at.sent ∙ sent in cc
+
+-- what the server submitted and did not give back, after all givebacks: nothing
+pub none_left : (s : Scene) (h : List Entry) (doings : List Doing) (rounds : List Giveback) → IsRun s h doings rounds → (u : ℕ) → carried_of (flat_map (giveback_entries s) rounds) u ≡ None
+none_left s h doings rounds run u =
+    ap (λ l. carried_of l u) (sym run.server)
+    ∙ (sym ((are_served (machine_of s) h run.legal).carried u)
+    ∙ (is_carried (machine_of s) u h run.legal).none (none_queued s h doings rounds run u))
+
+module _ (s : Scene) (h : List Entry) (doings : List Doing) (rounds : List Giveback) (run : IsRun s h doings rounds)
+    (before : List Giveback) (r : Giveback) (middle : List Giveback) (next : Giveback) (behind : List Giveback)
+    (parts : rounds ≡ before ++ r ∷ (middle ++ next ∷ behind)) (did : r.outcome ≡ outcome.Again Zero) (same : next.urb ≡ r.urb) (none : times_back r.urb middle ≡ 0) where
+  abbrev front : List Giveback
+  front = before ++ r ∷ middle
+
   left : carried_of (flat_map (giveback_entries s) front) r.urb ≡ Some (resent s r)
   left = ap (λ l. carried_of l r.urb) (flat_map-append (giveback_entries s) before (r ∷ middle) ∙ ap (λ l. flat_map (giveback_entries s) before ++ l) (flat_map-cons (giveback_entries s) r middle))
       ∙ (carry-append r.urb None (flat_map (giveback_entries s) before) (giveback_entries s r ++ flat_map (giveback_entries s) middle)
@@ -351,12 +368,6 @@ module _ (s : Scene) (h : List Entry) (doings : List Doing) (rounds : List Giveb
       ∙ (ap (λ t. carry r.urb t (flat_map (giveback_entries s) middle)) (leaves s r did (carried_of (flat_map (giveback_entries s) before) r.urb))
       ∙ none_back s r.urb (resent s r) middle none)))
 
-  legal : IsLegal (machine_of s) at.pre
-  legal = legal_before (machine_of s) at.pre at.give at.post (subst (IsLegal (machine_of s)) at.parts run.legal)
-
   pub sent_on : next.sent ≡ resent s r
-  sent_on =
-      let both : Some (carried_of at.pre next.urb) ≡ Some (carried_of (flat_map (giveback_entries s) front) next.urb) = sym by_history ∙ by_rounds in
-      let one : carried_of at.pre next.urb ≡ carried_of (flat_map (giveback_entries s) front) next.urb = cc in
-      let sent = (is_carried (machine_of s) next.urb at.pre legal).sent (resent s r) (one ∙ (ap (carried_of (flat_map (giveback_entries s) front)) same ∙ left)) in
-      let is : Some next.sent ≡ Some (resent s r) = at.sent ∙ sent in cc
+  sent_on = sent_as s h doings rounds run front next behind (parts ∙ sym (append_assoc before (r ∷ middle) (next ∷ behind))) (resent s r)
+      (ap (carried_of (flat_map (giveback_entries s) front)) same ∙ left)

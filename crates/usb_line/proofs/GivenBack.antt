@@ -46,7 +46,7 @@ back_among u [] = refl
 back_among u (r ∷ rounds) = ap (λ n. cond (eqb r.urb u) 1 0 + n) (back_among u rounds) ∙ sym (sum_by-cons (λ (r : Giveback). cond (eqb r.urb u) 1 0) r rounds)
 
 module _ (s : Scene) (h : List Entry) (doings : List Doing) (rounds : List Giveback) (run : IsRun s h doings rounds) where
-  none_queued : (u : ℕ) → (state_of h u).queued ≡ false
+  pub none_queued : (u : ℕ) → (state_of h u).queued ≡ false
   none_queued u = go (state_of h u).queued refl
     where
       go : (b : Bool) → (state_of h u).queued ≡ b → b ≡ false

@@ -84,3 +84,7 @@ pub mod OneStatus
 pub mod Acked
 pub mod Carrying
 pub mod Windows
+pub mod Beginning
+pub mod Firsts
+pub mod Jobs
+pub mod Heard

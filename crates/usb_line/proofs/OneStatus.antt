@@ -17,6 +17,7 @@ use Rattle.usb_machine.specs.declared.state.UrbState.{UrbState}
 use Rattle.usb_machine.specs.declared.transfer.Transfer.{Transfer}
 use Rattle.usb_machine.specs.declared.entry.Entry.{Entry}
 use Rattle.usb_machine.specs.State.{after, is_zero, is_clear, status_of, refusal, accepted, unlinks, unlinking, is_in_progress, finishes, answer_of}
+use Rattle.usb_machine.specs.Shapes.{HasWindow}
 use Rattle.usb_machine.specs.History.{Machine, Episode, state_of, is_of, line_of, sent_of, sent_after, ended_by, episodes_after, episodes_of}
 use Rattle.usb_machine.specs.Legal.{May, Follows, Carries, urb_of, end_of, IsLegal}
 use Rattle.usb_machine.specs.Laws.{is_give, NoneGives}
@@ -314,16 +315,16 @@ nth_all P (y ∷ xs) zero x all is = let same : y ≡ x = cc in subst P same (Al
 nth_all P (y ∷ xs) (suc k) x all is = nth_all P xs k x (All-tail P y xs all) is
 
 module _ (s : Scene) (h : List Entry) (doings : List Doing) (rounds : List Giveback) (run : IsRun s h doings rounds) (k : ℕ) (r : Giveback) (is : slice_get rounds k ≡ Some r) where
-  abbrev g : Machine
+  abbrev pub g : Machine
   g = machine_of s
 
-  at : IsGiveAt [] h k (episode_of r)
+  pub at : IsGiveAt [] h k (episode_of r)
   at = give_at [] h k (episode_of r) (ap (λ l. slice_get l k) run.gives ∙ nth_map episode_of rounds k r is)
 
   whole : IsLegal g (at.pre ++ at.give ∷ at.post)
   whole = subst (IsLegal g) at.parts run.legal
 
-  legal : IsLegal g at.pre
+  pub legal : IsLegal g at.pre
   legal = legal_before g at.pre at.give at.post whole
 
   last : Follows g at.pre at.give
@@ -332,7 +333,7 @@ module _ (s : Scene) (h : List Entry) (doings : List Doing) (rounds : List Giveb
   may : May g at.pre at.give.pass (Give record { 0 = r.urb })
   may = subst (May g at.pre at.give.pass) at.gives last.may
 
-  out : IsOut at.pre r.urb
+  pub out : IsOut at.pre r.urb
   out = queued_out r.urb at.pre (pending_is_queued g at.pre r.urb legal may.1)
 
   abbrev start : List Entry
@@ -341,7 +342,7 @@ module _ (s : Scene) (h : List Entry) (doings : List Doing) (rounds : List Giveb
   split : at.pre ≡ start ++ out.between
   split = out.parts ∙ sym (append_assoc out.before (out.submit ∷ []) out.between)
 
-  first : Follows g out.before out.submit
+  pub first : Follows g out.before out.submit
   first = follows_before g out.before out.submit out.between (subst (IsLegal g) out.parts legal)
 
   submitted : state_of start r.urb ≡ record (state_of out.before r.urb) { queued = true; mark = Clear }
@@ -374,7 +375,7 @@ module _ (s : Scene) (h : List Entry) (doings : List Doing) (rounds : List Giveb
       go (Some (Finish v code)) says f c = ((nth_all (IsGiveback s) rounds k r run.moves is).state f, f)
       go o says f c = absurd (true≢false c)
 
-  carries : out.submit.carried ≡ Some r.sent
+  pub carries : out.submit.carried ≡ Some r.sent
   carries = sym out.carries ∙ sym at.sent
 
   number : out.number ≡ r.sent.number
@@ -382,6 +383,13 @@ module _ (s : Scene) (h : List Entry) (doings : List Doing) (rounds : List Giveb
     where
       go : (e : Event) → e ≡ Submit record { 0 = r.urb } out.number → (c : Option Transfer) → c ≡ Some r.sent → Carries g e c → out.number ≡ r.sent.number
       go e is c the carry = sym (subst (λ c. Carries g (Submit record { 0 = r.urb } out.number) c) the (subst (λ e. Carries g e c) is carry)).0
+
+  -- the window of what was sent lies in its buffer
+  pub sent_window : HasWindow r.sent
+  sent_window = go out.submit.event out.submits out.submit.carried carries first.carries
+    where
+      go : (e : Event) → e ≡ Submit record { 0 = r.urb } out.number → (c : Option Transfer) → c ≡ Some r.sent → Carries g e c → HasWindow r.sent
+      go e is c the carry = (subst (λ c. Carries g (Submit record { 0 = r.urb } out.number) c) the (subst (λ e. Carries g e c) is carry)).1
 
   given_back : IsGivenBack h k r out.between
   given_back = record {

@@ -90,7 +90,7 @@ pub owner_size : (s : Scene) (u : ℕ) (o : Owner) (n : ℕ) → owner_of s u �
 owner_size s u o n is size = let of = owner_in_board s u o is in kept_few (probes_of s).board of.1 o.role n (sym of.6 ∙ size)
 
 -- which URB of the binding it is
-owner_urb : (s : Scene) (u : ℕ) (o : Owner) (is : owner_of s u ≡ Some o) → urb_of_role (owner_bound s u o is).0 o.role ≡ Some (record { 0 = u })
+pub owner_urb : (s : Scene) (u : ℕ) (o : Owner) (is : owner_of s u ≡ Some o) → urb_of_role (owner_bound s u o is).0 o.role ≡ Some (record { 0 = u })
 owner_urb s u o is = let b = owner_bound s u o is in role_has u b.0 o.role b.3
 
 module _ (s : Scene) (good : IsWellFormed s) where

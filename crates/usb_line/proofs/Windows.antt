@@ -11,6 +11,7 @@ use Rattle.usb_xfer.specs.Direction.{Direction, In, Out, ControlIn, ControlOut, 
 use Rattle.usb_xfer.specs.Replies.{Reply}
 use Rattle.usb_xfer.specs.Output.{acks}
 use Rattle.usb_xfer.specs.Moved.{moved, moved_by}
+use Rattle.usb_printer.specs.Whole.{IsMovedOn}
 use Rattle.usb_scene.specs.declared.scene.Scene.{Scene}
 use Rattle.usb_prepare.specs.Ends.{shape_at}
 use Rattle.usb_prepare.specs.Layout.{home}
@@ -18,16 +19,16 @@ use Rattle.usb_line.specs.declared.owner.Owner.{Owner}
 use Rattle.usb_line.specs.declared.made.Outcome.TheVariants as outcome
 use Rattle.usb_line.specs.Prepared.{owner_of, Asking, asking_of}
 use Rattle.usb_line.specs.Run.{Doing, IsRun, times_back, Giveback, moved_in, resent, resent_as, may_again, question_out, asks_or_rests, action_by, acts, IsHandled, AreHandled}
-use Rattle.usb_line.specs.RunLaws.{takes_packets, GoesOn}
+use Rattle.usb_line.specs.RunLaws.{takes_packets}
 use Rattle.usb_line.proofs.Carrying.{sent_on}
 
 -- the handler of a giveback in a run did what its driver says
-handled_at : (s : Scene) (m before : List Giveback) (r : Giveback) (behind : List Giveback) → AreHandled s m (before ++ r ∷ behind) → IsHandled (acts s (m ++ before) r.urb r.status (moved_in s r)) r.outcome
+pub handled_at : (s : Scene) (m before : List Giveback) (r : Giveback) (behind : List Giveback) → AreHandled s m (before ++ r ∷ behind) → IsHandled (acts s (m ++ before) r.urb r.status (moved_in s r)) r.outcome
 handled_at s m [] r behind all = subst (λ l. IsHandled (acts s l r.urb r.status (moved_in s r)) r.outcome) (sym (append-nil m)) all.0
 handled_at s m (x ∷ before) r behind all = subst (λ l. IsHandled (acts s l r.urb r.status (moved_in s r)) r.outcome) (append_assoc m (x ∷ []) before) (handled_at s (m ++ x ∷ []) before r behind all.1)
 
 -- what is submitted again is moved on, as the action says
-goes_on : (a : Action) (asking : Option Asking) (out : Bool) (t : Transfer) → IsHandled (asks_or_rests asking out a) (outcome.Again Zero) → GoesOn a t (window_by a t)
+goes_on : (a : Action) (asking : Option Asking) (out : Bool) (t : Transfer) → IsHandled (asks_or_rests asking out a) (outcome.Again Zero) → IsMovedOn a t (window_by a t)
 goes_on (Again from len) asking out t is = refl
 goes_on Rest None out t is = absurd is
 goes_on Rest (Some a) true t is = absurd is
@@ -37,18 +38,18 @@ goes_on Ask (Some a) true t is = absurd is
 goes_on Ask (Some a) false t is = absurd is
 
 module _ (s : Scene) (before : List Giveback) (r : Giveback) (behind : List Giveback) (o : Owner) (all : AreHandled s [] (before ++ r ∷ behind)) (did : r.outcome ≡ outcome.Again Zero) (owned : owner_of s r.urb ≡ Some o) where
-  pub moved_on : GoesOn (action_of o.driver o.role r.status (moved_in s r)) (moved_in s r) (resent s r)
+  pub moved_on : IsMovedOn (action_of o.driver o.role r.status (moved_in s r)) (moved_in s r) (resent s r)
   moved_on =
       let out = question_out s before (owner_of s r.urb) in
       let said : IsHandled (asks_or_rests (asking_of s r.urb) out (action_by (owner_of s r.urb) (may_again s before r.urb) r.status (moved_in s r))) (outcome.Again Zero) =
       subst (IsHandled (acts s before r.urb r.status (moved_in s r))) did (handled_at s [] before r behind all) in
       let by : IsHandled (asks_or_rests (asking_of s r.urb) out (action_of o.driver o.role r.status (moved_in s r))) (outcome.Again Zero) =
       subst (λ w. IsHandled (asks_or_rests (asking_of s r.urb) out (action_by w (may_again s before r.urb) r.status (moved_in s r))) (outcome.Again Zero)) owned said in
-      subst (GoesOn (action_of o.driver o.role r.status (moved_in s r)) (moved_in s r)) (ap (λ w. resent_as w r.status (moved_in s r)) (sym owned))
+      subst (IsMovedOn (action_of o.driver o.role r.status (moved_in s r)) (moved_in s r)) (ap (λ w. resent_as w r.status (moved_in s r)) (sym owned))
       (goes_on (action_of o.driver o.role r.status (moved_in s r)) (asking_of s r.urb) out (moved_in s r) by)
 
 -- an endpoint that takes packets leaves all but the count of the moved bytes
-kept_by_out : (shape : Shape) (t : Transfer) (replies : List Reply) → takes_packets shape ≡ true → moved shape t replies ≡ record t { actual = min t.len (shape.max * acks replies) }
+pub kept_by_out : (shape : Shape) (t : Transfer) (replies : List Reply) → takes_packets shape ≡ true → moved shape t replies ≡ record t { actual = min t.len (shape.max * acks replies) }
 kept_by_out shape t replies is = ap (λ d. moved_by d shape.max t replies) (out (is_control shape.kind) (goes_in shape.address) is)
   where
     way_by : Bool → Bool → Direction
@@ -60,7 +61,7 @@ kept_by_out shape t replies is = ap (λ d. moved_by d shape.max t replies) (out 
     out false false is = refl
 
 -- the count makes no difference to a window
-any_count : (a : Action) (t next : Transfer) (n : ℕ) → GoesOn a t next → GoesOn a t (record next { actual = n })
+pub any_count : (a : Action) (t next : Transfer) (n : ℕ) → IsMovedOn a t next → IsMovedOn a t (record next { actual = n })
 any_count (Again from len) t next n is = ap (λ (x : Transfer). record x { actual = n }) is
 any_count Rest t next n is = absurd is
 any_count Ask t next n is = absurd is
@@ -72,11 +73,11 @@ module _ (s : Scene) (h : List Entry) (doings : List Doing) (rounds : List Giveb
   abbrev action : Action
   action = action_of o.driver o.role r.status (moved_in s r)
 
-  pub windows_follow : GoesOn action (moved_in s r) (moved_in s next)
+  pub windows_follow : IsMovedOn action (moved_in s r) (moved_in s next)
   windows_follow =
-      let sent : GoesOn action (moved_in s r) next.sent =
-      subst (GoesOn action (moved_in s r)) (sym (sent_on s h doings rounds run before r middle next behind parts did same none))
+      let sent : IsMovedOn action (moved_in s r) next.sent =
+      subst (IsMovedOn action (moved_in s r)) (sym (sent_on s h doings rounds run before r middle next behind parts did same none))
       (moved_on s before r (middle ++ next ∷ behind) o (subst (AreHandled s []) parts run.handled) did owned) in
       let back : moved_in s next ≡ record (next.sent) { actual = min next.sent.len ((shape_at s (home s r.urb)).max * acks next.replies) } =
       ap (λ u. moved (shape_at s (home s u)) next.sent next.replies) same ∙ kept_by_out (shape_at s (home s r.urb)) next.sent next.replies takes in
-      subst (GoesOn action (moved_in s r)) (sym back) (any_count action (moved_in s r) next.sent (min next.sent.len ((shape_at s (home s r.urb)).max * acks next.replies)) sent)
+      subst (IsMovedOn action (moved_in s r)) (sym back) (any_count action (moved_in s r) next.sent (min next.sent.len ((shape_at s (home s r.urb)).max * acks next.replies)) sent)

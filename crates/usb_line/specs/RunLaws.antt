@@ -1,8 +1,10 @@
 -- What the laws of a run say of its givebacks.
-use Rattle.std.specs.Prelude.{ℕ, ◌≡◌, ◌*◌, Bool, true, false, not, ◌&&◌, ◌==◌, if◌then◌else◌, List, [], ◌∷◌, ◌++◌, length, take, Option, Some, None}
+use Rattle.std.specs.Prelude.{ℕ, ◌≡◌, ◌*◌, ◌⊎◌, Bool, true, false, not, ◌&&◌, ◌==◌, if◌then◌else◌, List, [], ◌∷◌, ◌++◌, length, map, filter, take, Option, Some, None}
 use Rattle.usb_types.specs.declared.errno.Code.TheVariants.{Fault}
 use Rattle.usb_types.specs.declared.urb.Action.{Action}
-use Rattle.usb_types.specs.declared.urb.Action.TheVariants.{Rest, Again, Ask}
+use Rattle.usb_types.specs.declared.urb.Action.TheVariants.{Again}
+use Rattle.usb_types.specs.declared.urb.Role.{Role}
+use Rattle.usb_types.specs.declared.urb.Role.TheVariants.{Write}
 use Rattle.usb_types.specs.Codes.{errno_of}
 use Rattle.usb_machine.specs.declared.layout.Shape.{Shape}
 use Rattle.usb_machine.specs.declared.event.Event.{Event}
@@ -18,10 +20,19 @@ use Rattle.usb_xfer.specs.Replies.{Reply, acked_by}
 use Rattle.usb_xfer.specs.Output.{acks}
 use Rattle.usb_xfer.specs.Control.{window_of}
 use Rattle.usb_xfer.specs.Moved.{moved, moved_state, question_of}
+use Rattle.usb_bind.specs.declared.row.Driver.TheVariants.{Printer}
+use Rattle.usb_printer.specs.Jobs.{Completion, completion}
+use Rattle.usb_printer.specs.Whole.{IsWindow, IsMovedOn, action_behind, IsJob, begins_at}
+use Rattle.usb_class.specs.Done.{Done}
+use Rattle.usb_class.specs.Told.{printer_heard}
 use Rattle.usb_scene.specs.declared.scene.Scene.{Scene}
 use Rattle.usb_prepare.specs.Ends.{shape_at}
 use Rattle.usb_prepare.specs.Layout.{home}
-use Rattle.usb_line.specs.Run.{Giveback}
+use Rattle.usb_line.specs.declared.owner.Owner.{Owner}
+use Rattle.usb_line.specs.declared.made.Outcome.{Outcome}
+use Rattle.usb_line.specs.declared.made.Outcome.TheVariants as outcome
+use Rattle.usb_line.specs.Prepared.{owner_of}
+use Rattle.usb_line.specs.Run.{Giveback, moved_in, done_at}
 
 -- giveback number k of a run in its history: an accepted submit of the URB with the transfer that was sent, the entries
 -- between, and the URB's next Give, which is number k of the history and answers the status
@@ -64,8 +75,41 @@ takes_packets shape = not (is_control shape.kind) && not (goes_in shape.address)
 abbrev pub acked_window : Shape → Giveback → List ℕ
 acked_window shape r = take (shape.max * acks r.replies) (window_of r.sent)
 
--- the transfer came back next with the window that the driver asked for, and so much of it is moved
-abbrev pub GoesOn : Action → Transfer → Transfer → Type 0
-GoesOn (Again from len) t next = next ≡ record t { from = from; len = len; actual = next.actual }
-GoesOn Rest t next = ⊥
-GoesOn Ask t next = ⊥
+-- the completion that a printer's driver has of a giveback of its URB for writes
+abbrev pub write_of : Scene → Giveback → Completion
+write_of s r = completion Write r.status (moved_in s r)
+
+abbrev pub writes_of : Scene → List Giveback → List Completion
+writes_of s job = map (write_of s) job
+
+-- whether an URB is the one for writes
+abbrev pub is_write : Role → Bool
+is_write Write = true
+is_write role = false
+
+-- what the printer's driver of the binding at this place hears of its writes
+abbrev pub writes_heard : Scene → ℕ → List Giveback → List Completion
+writes_heard s k rounds = map printer_heard (filter (λ (d : Done). is_write d.role) (done_at s k rounds))
+
+-- the driver asked for one more window, and the gate refused it
+abbrev pub IsRefused : Action → Outcome → Type 0
+IsRefused (Again from len) (outcome.Again (Fault errno)) = Unit {0}
+IsRefused action o = ⊥
+
+-- these windows came back, each asked for by the one before, until one was refused
+abbrev pub IsCutOff : Scene → List Giveback → Type 0
+IsCutOff s [] = ⊥
+IsCutOff s (r ∷ []) = IsWindow (write_of s r) × IsRefused (action_behind (write_of s r)) r.outcome
+IsCutOff s (r ∷ next ∷ more) = IsWindow (write_of s r) × IsMovedOn (action_behind (write_of s r)) (moved_in s r) (moved_in s next) × IsCutOff s (next ∷ more)
+
+-- a job: its first window begins at the first byte, and it came to its end or was cut off
+abbrev pub IsPrinted : Scene → List Giveback → Type 0
+IsPrinted s job = (begins_at (writes_of s job) ≡ 0) × (IsJob (writes_of s job) ⊎ IsCutOff s job)
+
+-- a printer's driver has this URB for its writes, and the endpoint takes packets
+pub record IsForWrites (s : Scene) (u : ℕ) : Type 0 where
+  pub owner : Owner
+  pub owned : owner_of s u ≡ Some owner
+  pub driver : owner.driver ≡ Printer
+  pub role : owner.role ≡ Write
+  pub packets : takes_packets (shape_at s (home s u)) ≡ true

@@ -1,10 +1,11 @@
 //! What holds of each run of a scene, in whatever order its entries came.
-ghost use Rattle.std.specs.Prelude.{ℕ, ◌≡◌, true, false, List, [], ◌∷◌, ◌++◌, length, Some, slice_get};
+ghost use Rattle.std.specs.Prelude.{ℕ, ◌≡◌, ◌==◌, true, false, List, [], ◌∷◌, ◌++◌, length, Some, slice_get, filter, All};
 ghost use Rattle.std.specs.List.{flat_map};
 ghost use Rattle.usb_types.specs.declared.errno.Code.TheVariants.{Zero};
 ghost use Rattle.usb_machine.specs.declared.entry.Entry.{Entry};
 ghost use Rattle.usb_machine.specs.Laws.{submits};
 ghost use Rattle.usb_scene.specs.declared.scene.Scene.{Scene};
+ghost use Rattle.usb_printer.specs.Whole.{IsMovedOn};
 ghost use Rattle.usb_class.specs.Handler.{action_of};
 ghost use Rattle.usb_prepare.specs.Ends.{shape_at};
 ghost use Rattle.usb_prepare.specs.Layout.{home};
@@ -15,7 +16,7 @@ ghost use Rattle.usb_line.specs.Prepared.{owner_of, script_of};
 ghost use Rattle.usb_line.specs.Due.{is_ruled};
 ghost use Rattle.usb_line.specs.Run.{Doing, Giveback, IsRun, times_back, moved_in, resent, rounds_at, replies_in};
 ghost use Rattle.usb_line.specs.Given.{acked_at};
-ghost use Rattle.usb_line.specs.RunLaws.{IsGivenBack, first_ending, HasStatusBy, acked_packets, takes_packets, acked_window, GoesOn};
+ghost use Rattle.usb_line.specs.RunLaws.{IsGivenBack, first_ending, HasStatusBy, acked_packets, takes_packets, acked_window, IsPrinted, IsForWrites, writes_of, writes_heard};
 
 /// An URB is given back as often as a submit of it was accepted.
 pub fn each_accepted_urb_is_given_back_once()
@@ -57,5 +58,16 @@ pub fn a_drivers_windows_follow_one_another()
         → (before : List Giveback) (r : Giveback) (middle : List Giveback) (next : Giveback) (after : List Giveback) → rounds ≡ before ++ r ∷ (middle ++ next ∷ after)
         → r.outcome ≡ Again Zero → next.urb ≡ r.urb → times_back r.urb middle ≡ 0
         → (o : Owner) → owner_of s r.urb ≡ Some o → takes_packets (shape_at s (home s r.urb)) ≡ true
-        → GoesOn (action_of o.driver o.role r.status (moved_in s r)) (moved_in s r) (moved_in s next) }
+        → IsMovedOn (action_of o.driver o.role r.status (moved_in s r)) (moved_in s r) (moved_in s next) }
+{}
+
+/// What a printer's driver hears of its writes in a run is one job after another. The first window of each begins at the job's first
+/// byte, each next one is the one that the driver asked for, and the job ends where the driver asks for no more, or is cut off where
+/// the gate refuses the next one.
+pub fn a_printers_windows_are_jobs()
+    ensures heard { (s : Scene) (h : List Entry) (doings : List Doing) (rounds : List Giveback) → IsRun s h doings rounds
+        → (u : ℕ) (writer : IsForWrites s u) → writes_heard s writer.owner.place rounds ≡ writes_of s (filter (λ r. r.urb == u) rounds) }
+    ensures jobs { (s : Scene) (h : List Entry) (doings : List Doing) (rounds : List Giveback) → IsRun s h doings rounds
+        → (u : ℕ) → IsForWrites s u
+        → (jobs : List (List Giveback)) × (filter (λ r. r.urb == u) rounds ≡ flat_map (λ job. job) jobs) × (All (IsPrinted s) jobs) }
 {}
