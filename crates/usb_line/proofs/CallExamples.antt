@@ -92,7 +92,7 @@ unfolding probes_of enumerated attached_as device_ends shapes_of first_state
 a_job_begins bytes e = (refl, rw e refl)
 
 -- `status prn 0` and `softreset prn 0` on lines 7 and 8 are GET_PORT_STATUS, with room for its byte, and SOFT_RESET (printer class 1.1,
--- sections 4.2.2 and 4.2.3)
+-- §4.2.2 and §4.2.3)
 what_else_a_printer_is_sent : (deed_of printing (call 7 29 (on.Interface 0 0) None) ≡ deed.Submit 1)
     × (fresh printing 1 (call 7 29 (on.Interface 0 0) None)
     ≡ record (transfer 7 (0x00 ∷ []) 0 1 0) { setup = Some (0xA1 ∷ 0x01 ∷ 0x00 ∷ 0x00 ∷ 0x00 ∷ 0x00 ∷ 0x01 ∷ 0x00 ∷ []) })
