@@ -1,0 +1,17 @@
+-- What a reason says of an URB.
+use Rattle.std.specs.Prelude.{◌≡◌, ◌<◌, true, false}
+use Rattle.usb_machine.specs.declared.state.UrbState.{UrbState}
+use Rattle.usb_machine.specs.State.{is_clear}
+use Rattle.example_urb.specs.declared.words.Reason.{Reason}
+use Rattle.example_urb.specs.declared.words.Reason.TheVariants.{Queued, NotQueued, Gone, Rejected, Unbound, Down, Marked, Unmarked}
+
+-- the reason is true of the URB in this state
+abbrev pub Explains : Reason → UrbState → Type 0
+Explains Queued s = s.queued ≡ true
+Explains NotQueued s = s.queued ≡ false
+Explains Gone s = s.flags.gone ≡ true
+Explains Rejected s = 0 < s.rejects
+Explains Unbound s = s.flags.off ≡ true
+Explains Down s = s.flags.down ≡ true
+Explains Marked s = is_clear s.mark ≡ false
+Explains Unmarked s = (s.queued ≡ true) × (is_clear s.mark ≡ true)
