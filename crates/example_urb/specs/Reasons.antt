@@ -1,5 +1,10 @@
 -- What a reason says of an URB.
 use Rattle.std.specs.Prelude.{◌≡◌, ◌<◌, true, false}
+use Rattle.usb_types.specs.declared.errno.Code.TheVariants.{Fault}
+use Rattle.usb_machine.specs.declared.event.Event.{Event}
+use Rattle.usb_machine.specs.declared.event.Event.TheVariants.{Submit, Mark, Finish}
+use Rattle.usb_machine.specs.declared.event.Answer.{Answer}
+use Rattle.usb_machine.specs.declared.event.Answer.TheVariants.{Code as Status, Truth}
 use Rattle.usb_machine.specs.declared.state.UrbState.{UrbState}
 use Rattle.usb_machine.specs.State.{is_clear}
 use Rattle.example_urb.specs.declared.words.Reason.{Reason}
@@ -15,3 +20,10 @@ Explains Unbound s = s.flags.off ≡ true
 Explains Down s = s.flags.down ≡ true
 Explains Marked s = is_clear s.mark ≡ false
 Explains Unmarked s = (s.queued ≡ true) × (is_clear s.mark ≡ true)
+
+-- the event is refused, or is a Mark, which never answers zero
+abbrev pub IsRefusal : Event → Answer → Type 0
+IsRefusal (Submit u n) (Status (Fault e)) = Unit {0}
+IsRefusal (Mark u w) (Status (Fault e)) = Unit {0}
+IsRefusal (Finish u c) (Truth false) = Unit {0}
+IsRefusal event answer = ⊥

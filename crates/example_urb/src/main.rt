@@ -2,6 +2,7 @@
 //! waits. Each event is printed with its answer, and with the reason where the answer is a refusal.
 #![tactic(auto)]
 
+mod events;
 mod words;
 
 ghost use Rattle.std.specs.Prelude.{IfOk, IfSome, IfNone, List, Option, ◌++◌, ◌∷◌, []};
@@ -12,66 +13,12 @@ ghost use Rattle.usb_machine.specs.Legal.{urb_of};
 ghost use Rattle.usb_machine.specs.Plain.{IsLayout, IsNext, Fits, Stands};
 ghost use Rattle.example_urb.specs.Reasons.{Explains};
 
+use events::{EVENTS, who};
 use std::alloc::{AllocError, Global};
 use std::io;
-use usb_machine::{Answer, EndKind, Event, Layout, Plain, SERVER, Shape};
-use usb_types::{Code, List, UrbId, Why};
+use usb_machine::{Answer, EndKind, Event, Layout, Plain, Shape};
+use usb_types::List;
 use words::{Reason, Said, Told, reason_for};
-
-const A: UrbId = UrbId(0);
-
-const B: UrbId = UrbId(1);
-
-/// The thread of the driver.
-const DRIVER: u32 = 2;
-
-/// A thread that kills.
-const KILLER: u32 = 3;
-
-const KILL_B: Event = Event::Mark {
-    urb: B,
-    why: Why::Kill,
-};
-
-const FINISH_A: Event = Event::Finish {
-    urb: A,
-    code: Code::Zero,
-};
-
-const FINISH_B: Event = Event::Finish {
-    urb: B,
-    code: Code::Zero,
-};
-
-const EVENTS: &[(u32, Event)] = &[
-    (DRIVER, Event::Submit { urb: A, number: 1 }),
-    (DRIVER, Event::Link { urb: A }),
-    (DRIVER, Event::Submit { urb: B, number: 2 }),
-    (DRIVER, Event::Link { urb: B }),
-    (DRIVER, Event::Submit { urb: B, number: 3 }),
-    (SERVER, Event::Take { ep: 0 }),
-    (SERVER, FINISH_A),
-    (SERVER, Event::Give { urb: A }),
-    (SERVER, Event::Rest { urb: A, number: 1 }),
-    (SERVER, Event::End { urb: A }),
-    (KILLER, Event::Reject { urb: B }),
-    (KILLER, KILL_B),
-    (KILLER, KILL_B),
-    (KILLER, Event::Quiet { urb: B }),
-    (SERVER, Event::Take { ep: 0 }),
-    (SERVER, FINISH_B),
-    (SERVER, Event::Give { urb: B }),
-    (DRIVER, Event::Submit { urb: B, number: 4 }),
-    (KILLER, Event::Quiet { urb: B }),
-    (SERVER, Event::Rest { urb: B, number: 2 }),
-    (SERVER, Event::End { urb: B }),
-    (KILLER, Event::Quiet { urb: B }),
-    (KILLER, Event::Claim { urb: B }),
-    (KILLER, KILL_B),
-    (KILLER, Event::Withdraw { urb: B }),
-    (DRIVER, Event::Submit { urb: B, number: 5 }),
-    (DRIVER, Event::Link { urb: B }),
-];
 
 /// Two URBs of one bulk endpoint.
 fn layout(alloc: Global) -> Result<Layout, AllocError>
@@ -107,22 +54,13 @@ fn make(plain: &mut Plain, pass: u32, event: Event) -> Option<(Answer, Option<Re
     Some((answer, reason_for(event, answer)))
 }
 
-fn who(pass: u32) -> &'static str {
-    match pass {
-        SERVER => "server",
-        DRIVER => "driver",
-        _ => "killer",
-    }
-}
-
 fn main(rt: HostRuntime) -> io::Result<()> {
     let alloc = rt.alloc();
     let layout = layout(alloc)?;
     let mut plain = Plain::new(alloc, &layout, 2).map_err(|_| AllocError)?;
     for (pass, event) in EVENTS {
-        let (who, event) = (who(*pass), *event);
-        let said = Said(event);
-        match make(&mut plain, *pass, event) {
+        let (who, said) = (who(*pass), Said(*event));
+        match make(&mut plain, *pass, *event) {
             None => println!(rt; "{who}: {said}: may not come yet")?,
             Some((answer, None)) => println!(rt; "{who}: {said}: {}", Told(answer))?,
             Some((answer, Some(why))) => println!(rt; "{who}: {said}: {}, {why}", Told(answer))?,

@@ -1,9 +1,9 @@
 //! Events, answers and reasons in words.
-ghost use Rattle.std.specs.Prelude.{◌≡◌, IfSome, List, ℕ};
+ghost use Rattle.std.specs.Prelude.{◌≡◌, IsSome, IfSome, IsSomeAnd, List, ℕ};
 ghost use Rattle.usb_types.specs.declared.errno.Code.TheVariants.{Fault};
 ghost use Rattle.usb_machine.specs.declared.state.UrbState.{UrbState};
 ghost use Rattle.usb_machine.specs.State.{answer_of, refusal, unlinking};
-ghost use Rattle.example_urb.specs.Reasons.{Explains};
+ghost use Rattle.example_urb.specs.Reasons.{Explains, IsRefusal};
 
 use std::fmt;
 use usb_machine::{Answer, Event};
@@ -39,7 +39,7 @@ impl fmt::Display for Reason {
 }
 
 fn refused(errno: Errno) -> Option<Reason>
-    ensures { (s : UrbState) → Fault errno ≡ refusal s → IfSome result (λ why. Explains why s) }
+    ensures { (s : UrbState) → Fault errno ≡ refusal s → IsSomeAnd result (λ why. Explains why s) }
 {
     match errno {
         Errno::EBUSY => Some(Reason::Queued),
@@ -52,7 +52,7 @@ fn refused(errno: Errno) -> Option<Reason>
 }
 
 fn not_unlinked(errno: Errno) -> Option<Reason>
-    ensures { (s : UrbState) → Fault errno ≡ unlinking s → IfSome result (λ why. Explains why s) }
+    ensures { (s : UrbState) → Fault errno ≡ unlinking s → IsSomeAnd result (λ why. Explains why s) }
 {
     match errno {
         Errno::EIDRM => Some(Reason::NotQueued),
@@ -64,7 +64,8 @@ fn not_unlinked(errno: Errno) -> Option<Reason>
 
 /// What the answer of an event says of its URB.
 pub fn reason_for(event: Event, answer: Answer) -> Option<Reason>
-    ensures { (s : UrbState) (line : List ℕ) → answer ≡ answer_of event s line → IfSome result (λ why. Explains why s) }
+    ensures holds { (s : UrbState) (line : List ℕ) → answer ≡ answer_of event s line → IfSome result (λ why. Explains why s) }
+    ensures some { (s : UrbState) (line : List ℕ) → answer ≡ answer_of event s line → IsRefusal event answer → IsSome result }
 {
     match (event, answer) {
         (Event::Submit { .. }, Answer::Code(Code::Fault(errno))) => refused(errno),
