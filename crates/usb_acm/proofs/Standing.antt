@@ -12,7 +12,7 @@ use Rattle.usb_types.specs.declared.urb.Role.TheVariants.{In, Note as NoteRole, 
 use Rattle.usb_acm.specs.declared.event.Event.{Event}
 use Rattle.usb_acm.specs.Notifications.{notes, unfinished, behind_within}
 use Rattle.usb_acm.specs.Serial.{Completion, is_data, succeeded, bytes_where, lost, capped, joined, stream_behind, stream_of, events_with, events_of, events_behind, serial_events}
-use Rattle.usb_acm.specs.Acm.{Kept, part_with, dropped_with, Notes, Stands}
+use Rattle.usb_acm.specs.Acm.{AcmState, part_with, dropped_with, Notes, IsAfter}
 use Rattle.usb_acm.proofs.Streams.{unfinished-append, notes_more-part}
 
 pub stream_behind-append : (stream : List ℕ) (done after : List Completion) → stream_behind stream (done ++ after) ≡ stream_behind (stream_behind stream done) after
@@ -51,12 +51,12 @@ pub serial_events-snoc : (done : List Completion) (c : Completion) → serial_ev
 serial_events-snoc done c = serial_events-append done (c ∷ []) ∙ ap (λ (es : List Event). serial_events done ++ es) (append-nil (events_of done c))
 
 -- a new core stands for nothing
-pub stands_at_first : (core : Kept) → core ≡ record { part = []; events = []; dropped = 0 } → Stands core []
+pub after_at_first : (core : AcmState) → core ≡ record { part = []; events = []; dropped = 0 } → IsAfter core []
 unfolding stream_of serial_events unfinished behind_within
-stands_at_first core e = record {
-  part = ap (λ (k : Kept). k.part) e;
-  events = ap (λ (k : Kept). k.events) e;
-  dropped = ap (λ (k : Kept). k.dropped) e;
+after_at_first core e = record {
+  part = ap (λ (k : AcmState). k.part) e;
+  events = ap (λ (k : AcmState). k.events) e;
+  dropped = ap (λ (k : AcmState). k.dropped) e;
 }
 
 unfinished-nothing : unfinished [] ≡ []
@@ -94,8 +94,8 @@ dropped_goes_on before c =
         ∙ ap capped (sym (add-zero (lost before)))
         ∙ sym (ap (λ (b : Bool). capped (lost before + length (concat (map (λ (d : Completion). d.moved) (cond b (c ∷ []) []))))) e)
 
-pub stands_more : (old new : Kept) (done : List Completion) (c : Completion) → Stands old done → Notes old new c → Stands new (done ++ c ∷ [])
-stands_more old new done c s n = record {
+pub after_more : (old new : AcmState) (done : List Completion) (c : Completion) → IsAfter old done → Notes old new c → IsAfter new (done ++ c ∷ [])
+after_more old new done c s n = record {
   part = n.part
       ∙ ap (λ (p : List ℕ). part_with p c.role c.status c.moved) s.part
       ∙ part_goes_on (stream_of done) c.role c.status c.moved

@@ -13,7 +13,7 @@ use Rattle.usb_acm.specs.Notifications.{notes, unfinished}
 use Rattle.usb_acm.specs.Serial.{Completion, is_data, succeeded, lost, capped, stream_of, events_with, serial_events}
 
 -- the bytes of a notification that is not whole yet, the events so far, and how many bytes were dropped
-pub record Kept : Type 0 where
+pub record AcmState : Type 0 where
   pub part : List ℕ
   pub events : List Event
   pub dropped : ℕ
@@ -29,13 +29,13 @@ abbrev pub dropped_with : ℕ → Role → Code → List ℕ → ℕ
 dropped_with dropped role status moved = if is_data role && not (succeeded status) then capped (dropped + length moved) else dropped
 
 -- the core takes note of one completion more
-pub record Notes (old new : Kept) (c : Completion) : Type 0 where
+pub record Notes (old new : AcmState) (c : Completion) : Type 0 where
   pub part : new.part ≡ part_with old.part c.role c.status c.moved
   pub events : new.events ≡ old.events ++ events_with (notes (old.part ++ c.moved)) c.role c.status c.setup c.moved
   pub dropped : new.dropped ≡ dropped_with old.dropped c.role c.status c.moved
 
 -- the core has seen these completions, and no other
-pub record Stands (core : Kept) (done : List Completion) : Type 0 where
+pub record IsAfter (core : AcmState) (done : List Completion) : Type 0 where
   pub part : core.part ≡ unfinished (stream_of done)
   pub events : core.events ≡ serial_events done
   pub dropped : core.dropped ≡ capped (lost done)

@@ -22,9 +22,9 @@ pub struct Acm {
 }
 
 impl Model for Acm {
-    ghost use Rattle.usb_acm.specs.Acm.{Kept};
+    ghost use Rattle.usb_acm.specs.Acm.{AcmState};
 
-    ghost Value = { Kept };
+    ghost Value = { AcmState };
 
     ghost view = { λ a. record { part = a.part.items; events = a.events.items; dropped = a.dropped } };
 }
@@ -33,11 +33,11 @@ impl Acm {
     ghost use Rattle.usb_machine.specs.Shapes.{HasWindow};
     ghost use Rattle.usb_acm.specs.Notifications.{notes, unfinished, Grown};
     ghost use Rattle.usb_acm.specs.Serial.{Completion, completion, capped, data_events, coding_events};
-    ghost use Rattle.usb_acm.specs.Acm.{Notes, Stands, IsOfAcm};
+    ghost use Rattle.usb_acm.specs.Acm.{Notes, IsAfter, IsOfAcm};
 
     /// The core of a port that has said nothing. It takes no memory.
     pub fn new(alloc: Global) -> Acm
-        ensures { Stands result [] }
+        ensures { IsAfter result [] }
     {
         Acm {
             alloc,
@@ -73,7 +73,7 @@ impl Acm {
         requires role { IsOfAcm role }
         requires window { HasWindow t.now }
         ensures action { IfOk result (λ action. action ≡ action_of role code t.now) }
-        ensures stands { (done : List Completion) → Stands self.old done → OnOk result (Stands self.new (done ++ completion role code t.now ∷ [])) }
+        ensures stands { (done : List Completion) → IsAfter self.old done → OnOk result (IsAfter self.new (done ++ completion role code t.now ∷ [])) }
         ensures memory { OnErr result (self.new ≡ self.old) }
     {
         let from = t.from as usize;

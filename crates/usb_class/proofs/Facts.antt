@@ -34,7 +34,7 @@ use Rattle.usb_printer.specs.Jobs.{rest_of, first_window, is_unlink}
 use Rattle.usb_class.specs.Done.{Done}
 use Rattle.usb_printer.specs.Requests.{question_of}
 use Rattle.usb_class.specs.Origin.{Origin}
-use Rattle.usb_class.specs.Asking.{question_by}
+use Rattle.usb_class.specs.Questions.{question_by}
 use Rattle.usb_class.specs.Calls.{role_for, setup_for}
 use Rattle.usb_class.specs.Roles.{all_roles, has_for, role_in, kept_size}
 use Rattle.usb_class.specs.Handler.{action_of, goes_again, window_by, goes_on, is_ctl}

@@ -3,9 +3,9 @@ use Rattle.std.specs.Prelude.{◌≡◌, Bool, true, false, List, map}
 use Rattle.usb_types.specs.declared.urb.Role.{Role}
 use Rattle.usb_bind.specs.declared.row.Driver.{Driver}
 use Rattle.usb_bind.specs.declared.row.Driver.TheVariants.{Keyboard, Acm, Printer}
-use Rattle.usb_hid.specs.Keyboard.{Stands, IsOfKeyboard}
-use Rattle.usb_acm.specs.Acm.{Stands as PortStands, IsOfAcm}
-use Rattle.usb_printer.specs.Printer.{Kept, Stands as PrinterStands, IsOfPrinter}
+use Rattle.usb_hid.specs.Keyboard.{IsAfter, IsOfKeyboard}
+use Rattle.usb_acm.specs.Acm.{IsAfter as PortStands, IsOfAcm}
+use Rattle.usb_printer.specs.Printer.{PrinterState, IsAfter as PrinterStands, IsOfPrinter}
 use Rattle.usb_printer.specs.Requests.{question_of}
 use Rattle.usb_machine.specs.declared.transfer.Transfer.{Transfer}
 use Rattle.usb_class.specs.declared.class_core.Core.{Core}
@@ -15,7 +15,7 @@ use Rattle.usb_class.specs.Origin.{Origin}
 use Rattle.usb_class.specs.Told.{heard, port_heard, printer_heard}
 
 -- a printer's core began so, and has seen these completions and no other
-pub record IsPrinter (o : Origin) (done : List Done) (kept : Kept) : Type 0 where
+pub record IsPrinter (o : Origin) (done : List Done) (kept : PrinterState) : Type 0 where
   pub number : kept.number ≡ o.number
   pub interface : kept.interface ≡ o.interface
   pub stands : PrinterStands kept o.id (map printer_heard done)

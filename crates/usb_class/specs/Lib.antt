@@ -1,6 +1,6 @@
 pub mod Done
 pub mod Origin
-pub mod Asking
+pub mod Questions
 pub mod Roles
 pub mod Handler
 pub mod Told

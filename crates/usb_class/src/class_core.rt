@@ -3,7 +3,7 @@ ghost use Rattle.std.specs.Prelude.{◌≡◌, ◌++◌, ◌∷◌, [], true, fa
 ghost use Rattle.usb_machine.specs.Shapes.{HasWindow};
 ghost use Rattle.usb_class.specs.Done.{Done};
 ghost use Rattle.usb_class.specs.Origin.{Origin};
-ghost use Rattle.usb_class.specs.Asking.{question_by, still_out};
+ghost use Rattle.usb_class.specs.Questions.{question_by, still_out};
 ghost use Rattle.usb_class.specs.Handler.{action_of};
 ghost use Rattle.usb_class.specs.Told.{told_of};
 ghost use Rattle.usb_class.specs.Core.{IsCore, is_asking, CanComplete, CanUnask};

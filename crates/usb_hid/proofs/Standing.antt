@@ -7,7 +7,7 @@ use Rattle.usb_hid.specs.declared.event.Event.{Event}
 use Rattle.usb_hid.specs.Reports.{modifiers_of, codes_of, is_roll_over}
 use Rattle.usb_hid.specs.Changes.{Grown}
 use Rattle.usb_hid.specs.Keys.{Completion, report_in, reports, last_of, modifiers_after, codes_after, report_events, light_events, events_of, events_behind, key_events}
-use Rattle.usb_hid.specs.Keyboard.{Kept, Notes, Stands}
+use Rattle.usb_hid.specs.Keyboard.{KeyboardState, Notes, IsAfter}
 
 pub last_of-append : {X : Type 0} (x : X) (xs ys : List X) → last_of x (xs ++ ys) ≡ last_of (last_of x xs) ys
 last_of-append x [] ys = refl
@@ -54,16 +54,16 @@ key_events-snoc done c =
     key_events-append done (c ∷ []) ∙ ap (λ (es : List Event). key_events done ++ es) (append-nil (events_of done c))
 
 -- a new core stands for nothing
-pub stands_at_first : (core : Kept) → core ≡ record { modifiers = 0; codes = 0 ∷ 0 ∷ 0 ∷ 0 ∷ 0 ∷ 0 ∷ []; events = [] } → Stands core []
+pub after_at_first : (core : KeyboardState) → core ≡ record { modifiers = 0; codes = 0 ∷ 0 ∷ 0 ∷ 0 ∷ 0 ∷ 0 ∷ []; events = [] } → IsAfter core []
 unfolding modifiers_after codes_after key_events
-stands_at_first core e = record {
-  modifiers = ap (λ (k : Kept). k.modifiers) e;
-  codes = ap (λ (k : Kept). k.codes) e;
-  events = ap (λ (k : Kept). k.events) e;
+after_at_first core e = record {
+  modifiers = ap (λ (k : KeyboardState). k.modifiers) e;
+  codes = ap (λ (k : KeyboardState). k.codes) e;
+  events = ap (λ (k : KeyboardState). k.events) e;
 }
 
-pub stands_more : (old new : Kept) (done : List Completion) (c : Completion) → Stands old done → Notes old new c → Stands new (done ++ c ∷ [])
-stands_more old new done c s n = record {
+pub after_more : (old new : KeyboardState) (done : List Completion) (c : Completion) → IsAfter old done → Notes old new c → IsAfter new (done ++ c ∷ [])
+after_more old new done c s n = record {
   modifiers = n.modifiers ∙ ap (λ (m : ℕ). last_of m (map modifiers_of (reports (c ∷ [])))) s.modifiers ∙ sym (modifiers_after-append done (c ∷ []));
   codes = n.codes ∙ ap (λ (cs : List ℕ). last_of cs (filter (λ codes. not (is_roll_over codes)) (map codes_of (reports (c ∷ []))))) s.codes ∙ sym (codes_after-append done (c ∷ []));
   events = n.events

@@ -13,19 +13,19 @@ use Rattle.usb_hid.specs.Reports.{modifiers_of, codes_of, is_roll_over}
 use Rattle.usb_hid.specs.Keys.{Completion, report_in, reports, last_of, report_events, light_events, modifiers_after, codes_after, key_events}
 
 -- the modifiers and the codes that stand, and the events so far
-pub record Kept : Type 0 where
+pub record KeyboardState : Type 0 where
   pub modifiers : ℕ
   pub codes : List ℕ
   pub events : List Event
 
 -- the core takes note of one completion more
-pub record Notes (old new : Kept) (c : Completion) : Type 0 where
+pub record Notes (old new : KeyboardState) (c : Completion) : Type 0 where
   pub modifiers : new.modifiers ≡ last_of old.modifiers (map modifiers_of (reports (c ∷ [])))
   pub codes : new.codes ≡ last_of old.codes (filter (λ codes. not (is_roll_over codes)) (map codes_of (reports (c ∷ []))))
   pub events : new.events ≡ old.events ++ report_events old.modifiers old.codes (report_in c.role c.status c.moved) ++ light_events c.role c.status c.moved
 
 -- the core has seen these completions, and no other
-pub record Stands (core : Kept) (done : List Completion) : Type 0 where
+pub record IsAfter (core : KeyboardState) (done : List Completion) : Type 0 where
   pub modifiers : core.modifiers ≡ modifiers_after done
   pub codes : core.codes ≡ codes_after done
   pub events : core.events ≡ key_events done

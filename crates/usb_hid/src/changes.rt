@@ -74,14 +74,14 @@ fn push_lost(
     ensures err { OnErr result (Grown events.old.items events.new.items) }
 {
     for (i, code) in codes.iter().enumerate() {
-        let lost = is_lost(*code, others, &codes[..i]);
+        let lost = is_released(*code, others, &codes[..i]);
         push_if(events, lost, turned(down, *code))?;
     }
     Ok(())
 }
 
 /// Whether the code is a key's that neither the others have nor the codes before it.
-fn is_lost(code: u8, others: &[u8], before: &[u8]) -> bool
+fn is_released(code: u8, others: &[u8], before: &[u8]) -> bool
     ensures { result ≡ (is_key code && not (has others.now code) && not (has before.now code)) }
 {
     code > ERROR_UNDEFINED && !others.contains(&code) && !before.contains(&code)

@@ -18,9 +18,9 @@ pub struct Keyboard {
 }
 
 impl Model for Keyboard {
-    ghost use Rattle.usb_hid.specs.Keyboard.{Kept};
+    ghost use Rattle.usb_hid.specs.Keyboard.{KeyboardState};
 
-    ghost Value = { Kept };
+    ghost Value = { KeyboardState };
 
     ghost view = { λ k. record { modifiers = k.modifiers; codes = k.codes; events = k.events.items } };
 }
@@ -29,13 +29,13 @@ impl Keyboard {
     ghost use Rattle.usb_machine.specs.Shapes.{HasWindow};
     ghost use Rattle.usb_hid.specs.Keys.{Completion, completion};
     ghost use Rattle.usb_hid.specs.Changes.{modifier_changes, code_changes, Grown};
-    ghost use Rattle.usb_hid.specs.Keyboard.{Kept, Notes, Stands, IsOfKeyboard};
+    ghost use Rattle.usb_hid.specs.Keyboard.{KeyboardState, Notes, IsAfter, IsOfKeyboard};
     ghost use Rattle.usb_types.specs.declared.urb.Role.TheVariants.{In, Ctl};
     ghost use Rattle.usb_types.specs.declared.errno.Code.TheVariants.{Zero};
 
     /// The core of a keyboard that has said nothing: no key is down.
     pub fn new(alloc: Global) -> Keyboard
-        ensures { Stands result [] }
+        ensures { IsAfter result [] }
     {
         Keyboard {
             modifiers: 0,
@@ -64,7 +64,7 @@ impl Keyboard {
         requires role { IsOfKeyboard role }
         requires window { HasWindow t.now }
         ensures action { IfOk result (λ action. action ≡ action_of role code t.now) }
-        ensures stands { (done : List Completion) → Stands self.old done → OnOk result (Stands self.new (done ++ completion role code t.now ∷ [])) }
+        ensures stands { (done : List Completion) → IsAfter self.old done → OnOk result (IsAfter self.new (done ++ completion role code t.now ∷ [])) }
         ensures memory { OnErr result (self.new ≡ self.old) }
     {
         let from = t.from as usize;

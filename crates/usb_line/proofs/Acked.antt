@@ -22,8 +22,8 @@ use Rattle.usb_prepare.specs.Layout.{home}
 use Rattle.usb_line.specs.Script.{replies_from}
 use Rattle.usb_line.specs.Prepared.{script_of}
 use Rattle.usb_line.specs.Due.{is_ruled, heard_before, answers_from, next_due}
-use Rattle.usb_line.specs.Run.{Doing, Giveback, IsRun, moved_in, rounds_at, replies_in, asked_of}
-use Rattle.usb_line.specs.Given.{sent_bytes, acked_at}
+use Rattle.usb_line.specs.Run.{CallRecord, Giveback, IsRun, moved_in, rounds_at, replies_in, asked_of}
+use Rattle.usb_line.specs.GivebackRow.{sent_bytes, acked_at}
 use Rattle.usb_line.specs.RunLaws.{acked_packets, takes_packets, acked_window}
 use Rattle.usb_line.proofs.Dues.{length-due}
 
@@ -110,7 +110,7 @@ module _ (s : Scene) (e : ℕ) where
   by_items : (qs : List Question) → is_ruled s e ≡ false → next_due s e [] qs ≡ replies_from (script_of s e) 0 (length qs)
   by_items qs off = ap (λ b. if b then answers_from (slice_get s.devices (shape_at s e).device) (heard_before s (shape_at s e).device ++ map (call_of 0) []) qs else replies_from (script_of s e) 0 (length qs)) off
 
-  module _ (h : List Entry) (doings : List Doing) (rounds : List Giveback) (run : IsRun s h doings rounds) where
+  module _ (h : List Entry) (call_records : List CallRecord) (rounds : List Giveback) (run : IsRun s h call_records rounds) where
     pub replies_of_script : is_ruled s e ≡ false → replies_in (rounds_at s e rounds) ≡ replies_from (script_of s e) 0 (length (replies_in (rounds_at s e rounds)))
     replies_of_script off =
         let count : length (asked_of s e rounds) ≡ length (replies_in (rounds_at s e rounds)) = sym (ap length (run.replies e) ∙ length-due s e [] (asked_of s e rounds)) in

@@ -17,17 +17,17 @@ use Rattle.usb_xfer.specs.declared.packet.Step.TheVariants.{More, Waiting, Ended
 use Rattle.usb_xfer.specs.Moved.{moved_state}
 use Rattle.usb_scene.specs.declared.scene.Scene.{Scene}
 use Rattle.usb_scene.specs.declared.scene.Call.{Call}
-use Rattle.usb_line.specs.declared.made.Deed.{Deed}
-use Rattle.usb_line.specs.declared.made.Deed.TheVariants as deed
+use Rattle.usb_line.specs.declared.made.HostCall.{HostCall}
+use Rattle.usb_line.specs.declared.made.HostCall.TheVariants as host_call
 use Rattle.usb_line.specs.declared.made.CallAnswer.{CallAnswer}
 use Rattle.usb_line.specs.declared.made.CallAnswer.TheVariants as told
 use Rattle.usb_prepare.specs.Ends.{ends_of, shape_at}
-use Rattle.usb_line.specs.Prepared.{machine_of, pass_of, main_pass, deed_of}
-use Rattle.usb_line.specs.Run.{Doing, urbs_of, call_entries, seen_quiet}
+use Rattle.usb_line.specs.Prepared.{machine_of, pass_of, main_pass, host_call_of}
+use Rattle.usb_line.specs.Run.{CallRecord, urbs_of, call_entries, seen_quiet}
 use Rattle.std.specs.List.{flat_map}
-use Rattle.usb_line.specs.Line.{Progress, adds, with_takes, had_after, GoesTo, IsServed, IsMarked, round_of, given_back, replies_had, waits, Passes, over, stops, Gives, unlinked, ended, IsIdle, GivesBack, none, one, woken, is_quiet, StaysLoud, begins, goes_on, WaitsFor, already, turns, ClaimsEach, killing, with_doing, doing, shut_marks, shutting, answer_now, Makes, at_once, served, killed, poisoned, shut_down, IsLine, start, call, Closes, IsLineRun}
+use Rattle.usb_line.specs.Line.{Progress, adds, with_takes, had_after, GoesTo, IsServed, IsMarked, round_of, given_back, replies_had, waits, Passes, over, stops, Gives, unlinked, ended, IsIdle, GivesBack, none, one, woken, is_quiet, StaysLoud, begins, goes_on, WaitsFor, already, turns, ClaimsEach, killing, with_call_record, call_record, shut_marks, shutting, answer_now, Makes, at_once, served, killed, poisoned, shut_down, IsLine, start, call, Closes, IsLineRun}
 use Rattle.usb_line.proofs.Scripted.{placed}
-use Rattle.usb_line.proofs.Calls.{makes_doings}
+use Rattle.usb_line.proofs.Calls.{makes_call_records}
 
 -- of two numbers of replies after which a transfer does not go on, neither is the smaller
 same_goes : (s : Scene) (f : Progress) (e : ℕ) (t : Transfer) (n k : ℕ) (c d : Step) → c ≢ More → d ≢ More → GoesTo s f e t n c → GoesTo s f e t k d → (n ≡ k) × (c ≡ d)
@@ -218,31 +218,31 @@ module _ (s : Scene) (f : Progress) (i : ℕ) (c : Call) where
   abbrev p : ℕ
   p = pass_of s i
 
-  not_now : (dd : Deed) (a : CallAnswer) → deed_of s c ≡ dd → answer_now s f c (deed_of s c) ≡ Some a → answer_now s f c dd ≡ Some a
+  not_now : (dd : HostCall) (a : CallAnswer) → host_call_of s c ≡ dd → answer_now s f c (host_call_of s c) ≡ Some a → answer_now s f c dd ≡ Some a
   not_now dd a is e = ap (answer_now s f c) (sym is) ∙ e
 
-  same_kill : (u v : ℕ) → deed.Kill u ≡ deed.Kill v → u ≡ v
+  same_kill : (u v : ℕ) → host_call.Kill u ≡ host_call.Kill v → u ≡ v
   same_kill u v e = cc
 
-  same_poison : (u v : ℕ) → deed.Poison u ≡ deed.Poison v → u ≡ v
+  same_poison : (u v : ℕ) → host_call.Poison u ≡ host_call.Poison v → u ≡ v
   same_poison u v e = cc
 
   some_same : (a b : CallAnswer) → Some a ≡ Some b → a ≡ b
   some_same a b e = cc
 
-  up_none : (a : CallAnswer) → f.down ≡ false → answer_now s f c deed.Down ≡ Some a → ⊥
+  up_none : (a : CallAnswer) → f.down ≡ false → answer_now s f c host_call.Down ≡ Some a → ⊥
   up_none a up e = let x = sym (ap (λ b. cond b (Some (told.Code (Fault ESHUTDOWN))) None) up) ∙ e in cc
 
-  same_makes : (d e : Doing) (m k : Progress) → Makes s f i c d m → Makes s f i c e k → (d ≡ e) × (m ≡ k)
-  same_makes _ _ _ _ (at_once a x) (at_once b y) = let same = some_same a b (sym x ∙ y) in ((λ j. doing f i c (same j) [] []), (λ j. adds f (call_entries s (doing f i c (same j) [] []))))
-  same_makes _ _ _ _ (at_once a x) (served m e is g idle) = let z = not_now deed.Serve a is x in cc
-  same_makes _ _ _ _ (at_once a x) (killed u m is w) = let z = not_now (deed.Kill u) a is x in cc
-  same_makes _ _ _ _ (at_once a x) (poisoned u m is w) = let z = not_now (deed.Poison u) a is x in cc
-  same_makes _ _ _ _ (at_once a x) (shut_down r m is up w) = absurd (up_none a up (not_now deed.Down a is x))
-  same_makes _ _ _ _ (served m e is g idle) (at_once a x) = let z = not_now deed.Serve a is x in cc
-  same_makes _ _ _ _ (killed u m is w) (at_once a x) = let z = not_now (deed.Kill u) a is x in cc
-  same_makes _ _ _ _ (poisoned u m is w) (at_once a x) = let z = not_now (deed.Poison u) a is x in cc
-  same_makes _ _ _ _ (shut_down r m is up w) (at_once a x) = absurd (up_none a up (not_now deed.Down a is x))
+  same_makes : (d e : CallRecord) (m k : Progress) → Makes s f i c d m → Makes s f i c e k → (d ≡ e) × (m ≡ k)
+  same_makes _ _ _ _ (at_once a x) (at_once b y) = let same = some_same a b (sym x ∙ y) in ((λ j. call_record f i c (same j) [] []), (λ j. adds f (call_entries s (call_record f i c (same j) [] []))))
+  same_makes _ _ _ _ (at_once a x) (served m e is g idle) = let z = not_now host_call.Serve a is x in cc
+  same_makes _ _ _ _ (at_once a x) (killed u m is w) = let z = not_now (host_call.Kill u) a is x in cc
+  same_makes _ _ _ _ (at_once a x) (poisoned u m is w) = let z = not_now (host_call.Poison u) a is x in cc
+  same_makes _ _ _ _ (at_once a x) (shut_down r m is up w) = absurd (up_none a up (not_now host_call.Down a is x))
+  same_makes _ _ _ _ (served m e is g idle) (at_once a x) = let z = not_now host_call.Serve a is x in cc
+  same_makes _ _ _ _ (killed u m is w) (at_once a x) = let z = not_now (host_call.Kill u) a is x in cc
+  same_makes _ _ _ _ (poisoned u m is w) (at_once a x) = let z = not_now (host_call.Poison u) a is x in cc
+  same_makes _ _ _ _ (shut_down r m is up w) (at_once a x) = absurd (up_none a up (not_now host_call.Down a is x))
   same_makes _ _ _ _ (served m e is g idle) (served n d is2 h idle2) = (refl, same_end s (woken f) e d (to_idle s (woken f) m e g (idles m e idle)) (to_idle s (woken f) n d h (idles n d idle2)))
   same_makes _ _ _ _ (served m e is g idle) (killed u n is2 w) = let z = sym is ∙ is2 in cc
   same_makes _ _ _ _ (served m e is g idle) (poisoned u n is2 w) = let z = sym is ∙ is2 in cc
@@ -252,12 +252,12 @@ module _ (s : Scene) (f : Progress) (i : ℕ) (c : Call) where
   same_makes _ _ _ _ (shut_down r n is2 up w) (served m e is g idle) = let z = sym is ∙ is2 in cc
   same_makes _ _ _ _ (killed u m is w) (killed v n is2 y) =
       let urb = same_kill u v (sym is ∙ is2) in let last = wait_from s u v (killing p u f) (killing p v f) m n urb (λ j. killing p (urb j) f) w y in (
-        (λ j. doing f i c (told.Buffer (state_of (last j).history (urb j)).rest) (unlinking (state_of f.history (urb j)) ∷ []) []),
+        (λ j. call_record f i c (told.Buffer (state_of (last j).history (urb j)).rest) (unlinking (state_of f.history (urb j)) ∷ []) []),
         (λ j. adds (last j) (claim_entries p (urb j) (state_of (last j).history (urb j)).rest ++ unblock_entries p (urb j))),
       )
   same_makes _ _ _ _ (poisoned u m is w) (poisoned v n is2 y) =
       let urb = same_poison u v (sym is ∙ is2) in let last = wait_from s u v (killing p u f) (killing p v f) m n urb (λ j. killing p (urb j) f) w y in (
-        (λ j. doing f i c (told.Buffer (state_of (last j).history (urb j)).rest) (unlinking (state_of f.history (urb j)) ∷ []) []),
+        (λ j. call_record f i c (told.Buffer (state_of (last j).history (urb j)).rest) (unlinking (state_of f.history (urb j)) ∷ []) []),
         (λ j. adds (last j) (claim_entries p (urb j) (state_of (last j).history (urb j)).rest)),
       )
   same_makes _ _ _ _ (killed u m is w) (poisoned v n is2 y) = let z = sym is ∙ is2 in cc
@@ -267,21 +267,21 @@ module _ (s : Scene) (f : Progress) (i : ℕ) (c : Call) where
   same_makes _ _ _ _ (shut_down r n is2 up y) (killed u m is w) = let z = sym is ∙ is2 in cc
   same_makes _ _ _ _ (shut_down r n is2 up y) (poisoned u m is w) = let z = sym is ∙ is2 in cc
   same_makes _ _ _ _ (shut_down r m is up w) (shut_down q n is2 up2 y) =
-      let same = same_claims s p (shutting s p f) (urbs_of s) (urbs_of s) r q m n w y refl in ((λ j. doing f i c told.Done (shut_marks s p f) (same.0 j)), same.1)
+      let same = same_claims s p (shutting s p f) (urbs_of s) (urbs_of s) r q m n w y refl in ((λ j. call_record f i c told.Done (shut_marks s p f) (same.0 j)), same.1)
 
 abbrev calls : Progress → List (ℕ × Call)
-calls f = map placed f.doings
+calls f = map placed f.call_records
 
-last_call : (f g : Progress) (d e : Doing) → map placed (f.doings ++ d ∷ []) ≡ map placed (g.doings ++ e ∷ []) → (calls f ≡ calls g) × (placed d ≡ placed e)
-last_call f g d e x = snoc_same (calls f) (calls g) (placed d) (placed e) (sym (map-append placed f.doings (d ∷ [])) ∙ (x ∙ map-append placed g.doings (e ∷ [])))
+last_call : (f g : Progress) (d e : CallRecord) → map placed (f.call_records ++ d ∷ []) ≡ map placed (g.call_records ++ e ∷ []) → (calls f ≡ calls g) × (placed d ≡ placed e)
+last_call f g d e x = snoc_same (calls f) (calls g) (placed d) (placed e) (sym (map-append placed f.call_records (d ∷ [])) ∙ (x ∙ map-append placed g.call_records (e ∷ [])))
 
-not_first : (f : Progress) (d : Doing) → [] ≡ map placed (f.doings ++ d ∷ []) → ⊥
-not_first f d e = not_snoc (calls f) (placed d) (e ∙ map-append placed f.doings (d ∷ []))
+not_first : (f : Progress) (d : CallRecord) → [] ≡ map placed (f.call_records ++ d ∷ []) → ⊥
+not_first f d e = not_snoc (calls f) (placed d) (e ∙ map-append placed f.call_records (d ∷ []))
 
 module _ (s : Scene) where
   -- a call that was made is its thread's, and the calls before it are those before
-  before_call : (f m : Progress) (i : ℕ) (c : Call) (d : Doing) → Makes s f i c d m → (placed d ≡ (i, c)) × (calls m ≡ calls f)
-  before_call f m i c d made = let x = makes_doings s f i c d m made in (x.0, ap (map placed) x.1)
+  before_call : (f m : Progress) (i : ℕ) (c : Call) (d : CallRecord) → Makes s f i c d m → (placed d ≡ (i, c)) × (calls m ≡ calls f)
+  before_call f m i c d made = let x = makes_call_records s f i c d m made in (x.0, ap (map placed) x.1)
 
   same_line : (f g : Progress) → IsLine s f → IsLine s g → calls f ≡ calls g → f ≡ g
   same_line _ _ start start e = refl
@@ -294,7 +294,7 @@ module _ (s : Scene) where
       let thread = ap (λ (z : ℕ × Call). z.0) call_is in let the_call = ap (λ (z : ℕ × Call). z.1) call_is in
       let other : Makes s f i c k n = subst (λ z. Makes s z i c k n) (sym same) (subst (λ (i : ℕ). Makes s g i c k n) (sym thread) (subst (λ (c : Call). Makes s g j c k n) (sym the_call) made2)) in
       let both = same_makes s f i c d k m n made other in
-      (λ z. with_doing s (both.1 z) (both.0 z))
+      (λ z. with_call_record s (both.1 z) (both.0 z))
 
   pub one_line : (f g : Progress) → IsLineRun s f → IsLineRun s g → f ≡ g
   one_line f g a b =

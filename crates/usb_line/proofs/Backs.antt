@@ -32,10 +32,10 @@ use Rattle.usb_line.specs.declared.run.Received.{Received}
 use Rattle.usb_line.specs.declared.run.LineRun.{LineRun}
 use Rattle.usb_prepare.specs.Ends.{shape_at}
 use Rattle.usb_prepare.specs.Layout.{home}
-use Rattle.usb_line.specs.Prepared.{machine_of, owner_of, again_of, Asking, asking_of}
+use Rattle.usb_line.specs.Prepared.{machine_of, owner_of, again_of, Question, question_at}
 use Rattle.usb_line.specs.Run.{Giveback, moved_in, resent, action_by, is_accepted, times_back, rounds_at, is_first, asked_in, asked_of}
 use Rattle.usb_line.specs.Line.{Progress, replies_had, given_back}
-use Rattle.usb_line.specs.Given.{given_of, acked_at, sent_bytes, IsReceived}
+use Rattle.usb_line.specs.GivebackRow.{giveback_row, acked_at, sent_bytes, IsReceived}
 use Rattle.usb_line.specs.Shows.{IsApt, HoldsTransfer, ShowsUrb, ShowsEnd, ShowsCores, Shows, ShowsDevices, asked_now}
 use Rattle.usb_line.specs.Back.{Adds, is_again, left_by, row_back, CanPoseAny, CanGive}
 use Rattle.usb_line.proofs.Resending.{resent_unmoved}
@@ -169,7 +169,7 @@ module _ (s : Scene) (f : Progress) (r : Giveback) where
   }
 
   -- one that a question was asked with has the question's transfer
-  module _ (legal : IsLegal (machine_of s) h) (a : Asking) (put : IsPut s h r a) where
+  module _ (legal : IsLegal (machine_of s) h) (a : Question) (put : IsPut s h r a) where
     not_first : (e : ℕ) → home s a.urb ≡ e → (us : List ℕ) → pending_of (machine_of s) h e ≡ us → is_first a.urb (cond (eqb (home s r.urb) e) (without r.urb us) us) ≡ false
     not_first e here us is = go (is_first a.urb (cond (eqb (home s r.urb) e) (without r.urb us) us)) refl
       where
@@ -208,18 +208,18 @@ module _ (s : Scene) (f : Progress) (r : Giveback) where
   abbrev pub again_by : Action
   again_by = action_by (owner_of s r.urb) true r.status (moved_in s r)
 
-  own_state_queued : CanPoseAny s r.urb (asking_of s r.urb) → (o : Outcome) → r.outcome ≡ o → (b : Bool) → (handled_state o (moved_in s r).number (record (state_of h r.urb) { queued = false; mark = Clear })).queued ≡ b
+  own_state_queued : CanPoseAny s r.urb (question_at s r.urb) → (o : Outcome) → r.outcome ≡ o → (b : Bool) → (handled_state o (moved_in s r).number (record (state_of h r.urb) { queued = false; mark = Clear })).queued ≡ b
       → (state_of k.history r.urb).queued ≡ b
-  own_state_queued pose o is b q = ap (λ (t : UrbState). t.queued) (giveback_state s h r (apart_any s r.urb (asking_of s r.urb) pose) ∙ ap (λ o. handled_state o (moved_in s r).number (record (state_of h r.urb) { queued = false; mark = Clear })) is) ∙ q
+  own_state_queued pose o is b q = ap (λ (t : UrbState). t.queued) (giveback_state s h r (apart_any s r.urb (question_at s r.urb) pose) ∙ ap (λ o. handled_state o (moved_in s r).number (record (state_of h r.urb) { queued = false; mark = Clear })) is) ∙ q
 
-  own_unposed : CanPoseAny s r.urb (asking_of s r.urb) → IsApart r.urb (posed s r)
-  own_unposed pose = narrow (is_accepted r.outcome) (asking_of s r.urb) (apart_any s r.urb (asking_of s r.urb) pose)
+  own_unposed : CanPoseAny s r.urb (question_at s r.urb) → IsApart r.urb (posed s r)
+  own_unposed pose = narrow (is_accepted r.outcome) (question_at s r.urb) (apart_any s r.urb (question_at s r.urb) pose)
     where
-      narrow : (b : Bool) (asking : Option Asking) → IsApart r.urb asking → IsApart r.urb (cond b asking None)
+      narrow : (b : Bool) (asking : Option Question) → IsApart r.urb asking → IsApart r.urb (cond b asking None)
       narrow true asking apart = apart
       narrow false asking apart = tt
 
-  own_holds : CanPoseAny s r.urb (asking_of s r.urb) → IsApt s r.urb (resent s r) → (o : Outcome) → r.outcome ≡ o → HoldsTransfer s k r.urb (left_by o again_by (moved_in s r))
+  own_holds : CanPoseAny s r.urb (question_at s r.urb) → IsApt s r.urb (resent s r) → (o : Outcome) → r.outcome ≡ o → HoldsTransfer s k r.urb (left_by o again_by (moved_in s r))
   own_holds pose apt outcome.Rest is = own_state_queued pose outcome.Rest is false refl
   own_holds pose apt (outcome.Asked c) is = own_state_queued pose (outcome.Asked c) is false refl
   own_holds pose apt (outcome.Again (Fault c)) is = own_state_queued pose (outcome.Again (Fault c)) is false refl
@@ -244,7 +244,7 @@ module _ (s : Scene) (f : Progress) (r : Giveback) where
   same_left action goes (outcome.Again (Fault c)) is t = refl
   same_left action goes (outcome.Again Zero) is t = ap (λ a. Some (window_by a t)) (sym (goes (ap is_again is)))
 
-  pub urb_own : CanPoseAny s r.urb (asking_of s r.urb) → IsApt s r.urb (resent s r) → (row : UrbRow) (t : Transfer) (o : Outcome) (action : Action) → row.home ≡ e → row.owner ≡ owner_of s r.urb
+  pub urb_own : CanPoseAny s r.urb (question_at s r.urb) → IsApt s r.urb (resent s r) → (row : UrbRow) (t : Transfer) (o : Outcome) (action : Action) → row.home ≡ e → row.owner ≡ owner_of s r.urb
       → row.again ≡ again_of s r.urb - times_back r.urb f.rounds → t ≡ moved_in s r → o ≡ r.outcome → GoesBy action → ShowsUrb s k r.urb (row_back o action t row)
   urb_own pose apt row t o action at owner more is did goes = record {
     at = at;
@@ -304,10 +304,10 @@ module _ (s : Scene) (f : Progress) (r : Giveback) where
   }
 
   -- so the object shows the progress with the giveback
-  pub shows_back : CanPoseAny s r.urb (asking_of s r.urb) → (run new : LineRun) → Shows s f run → Stands new.plain (machine_of s) k.history → ShowsDevices s k new.devices.items
+  pub shows_back : CanPoseAny s r.urb (question_at s r.urb) → (run new : LineRun) → Shows s f run → Stands new.plain (machine_of s) k.history → ShowsDevices s k new.devices.items
       → length new.urbs.items ≡ length run.urbs.items → ((u : ℕ) (row : UrbRow) → slice_get new.urbs.items u ≡ Some row → ShowsUrb s k u row)
       → (end : EndRow) → new.ends.items ≡ slice_set run.ends.items e end → ShowsEnd s k e end
-      → ShowsCores s k.rounds new.cores.items → new.given ≡ run.given ++ given_of s r ∷ [] → new.down ≡ run.down → Shows s k new
+      → ShowsCores s k.rounds new.cores.items → new.given ≡ run.given ++ giveback_row s r ∷ [] → new.down ≡ run.down → Shows s k new
   shows_back pose run new old stands devices count urbs end ends here cores told host = record {
     stands = stands;
     calm = calm_giveback s h r pose old.calm;
@@ -320,6 +320,6 @@ module _ (s : Scene) (f : Progress) (r : Giveback) where
     each_urb = urbs;
     unmoved = unmoved_back old.unmoved;
     cores = cores;
-    came_back = told ∙ (ap (λ l. l ++ given_of s r ∷ []) old.came_back ∙ sym (map-append (given_of s) f.rounds (r ∷ [])));
+    came_back = told ∙ (ap (λ l. l ++ giveback_row s r ∷ []) old.came_back ∙ sym (map-append (giveback_row s) f.rounds (r ∷ [])));
     host = host ∙ old.host;
   }

@@ -26,18 +26,18 @@ use Rattle.usb_bind.specs.declared.row.Driver.{Driver}
 use Rattle.usb_bind.specs.declared.row.Driver.TheVariants.{Keyboard, Acm, Printer}
 use Rattle.usb_printer.specs.Requests.{question_of}
 use Rattle.usb_class.specs.Origin.{Origin}
-use Rattle.usb_class.specs.Asking.{question_by}
+use Rattle.usb_class.specs.Questions.{question_by}
 use Rattle.usb_class.specs.Handler.{is_ctl}
 use Rattle.usb_scene.specs.declared.scene.Scene.{Scene}
 use Rattle.usb_prepare.specs.Ends.{shape_at}
 use Rattle.usb_prepare.specs.Layout.{home}
 use Rattle.usb_line.specs.declared.owner.Owner.{Owner}
-use Rattle.usb_line.specs.declared.made.Deed.{Deed}
-use Rattle.usb_line.specs.declared.made.Deed.TheVariants as deed
+use Rattle.usb_line.specs.declared.made.HostCall.{HostCall}
+use Rattle.usb_line.specs.declared.made.HostCall.TheVariants as host_call
 use Rattle.usb_line.specs.declared.made.CallAnswer.{CallAnswer}
 use Rattle.usb_line.specs.declared.made.CallAnswer.TheVariants as told
-use Rattle.usb_line.specs.Prepared.{owner_of, origin_of, Asking, asking_with, asking_by, asking_of, reading, read_by, number_of, fresh, submit_fault, pass_of, deed_of, main_pass}
-use Rattle.usb_line.specs.Run.{Doing, Giveback, IsRun, IsFramed, urbs_of, submit_of, killed_by, deed_entries, call_entries, done_by, read_entries_by, read_entries, opening, kills_of, seen_quiet, closing}
+use Rattle.usb_line.specs.Prepared.{owner_of, origin_of, Question, question_with, owner_question, question_at, reading, read_by, number_of, fresh, submit_fault, pass_of, host_call_of, main_pass}
+use Rattle.usb_line.specs.Run.{CallRecord, Giveback, IsRun, IsFramed, urbs_of, submit_of, killed_by, host_call_entries, call_entries, done_by, read_entries_by, read_entries, opening, kills_of, seen_quiet, closing}
 use Rattle.usb_line.proofs.Stills.{IsStill, AreStill, AreStill-append, flags_still, unflags_still, marks_still}
 
 -- where an entry is an accepted submit of URB u, its window begins at the first byte
@@ -81,40 +81,40 @@ module _ (u p : ℕ) where
   sent_begins (Some e) v t c is = tt
 
 -- the entries of a call
-module _ (u : ℕ) (s : Scene) (p : ℕ) (d : Doing) where
-  deed_begins : (dd : Deed) (a : CallAnswer) → AllBegin u (deed_entries s p d.call dd a d.marks d.rests d.down)
-  deed_begins (deed.Submit v) (told.Code c) = sent_begins u p (submit_fault s v d.call) v (fresh s v d.call) c refl
-  deed_begins (deed.Unlink v) (told.Code c) = (tt, tt)
-  deed_begins (deed.Kill v) (told.Buffer n) = go d.marks
+module _ (u : ℕ) (s : Scene) (p : ℕ) (d : CallRecord) where
+  host_call_begins : (dd : HostCall) (a : CallAnswer) → AllBegin u (host_call_entries s p d.call dd a d.marks d.rests d.down)
+  host_call_begins (host_call.Submit v) (told.Code c) = sent_begins u p (submit_fault s v d.call) v (fresh s v d.call) c refl
+  host_call_begins (host_call.Unlink v) (told.Code c) = (tt, tt)
+  host_call_begins (host_call.Kill v) (told.Buffer n) = go d.marks
     where
       go : (marks : List Code) → AllBegin u (killed_by (λ a. kill_entries p v a n) marks)
       go [] = tt
       go (a ∷ more) = (tt, (tt, (tt, (tt, (tt, tt)))))
-  deed_begins (deed.Poison v) (told.Buffer n) = go d.marks
+  host_call_begins (host_call.Poison v) (told.Buffer n) = go d.marks
     where
       go : (marks : List Code) → AllBegin u (killed_by (λ a. poison_entries p v a n) marks)
       go [] = tt
       go (a ∷ more) = (tt, (tt, (tt, (tt, tt))))
-  deed_begins (deed.Unpoison v) told.Done = (tt, tt)
-  deed_begins (deed.Block v) told.Done = (tt, tt)
-  deed_begins (deed.Unblock v) told.Done = (tt, tt)
-  deed_begins deed.Down told.Done =
+  host_call_begins (host_call.Unpoison v) told.Done = (tt, tt)
+  host_call_begins (host_call.Block v) told.Done = (tt, tt)
+  host_call_begins (host_call.Unblock v) told.Done = (tt, tt)
+  host_call_begins host_call.Down told.Done =
       let flags : List Entry = map (λ v. plain_entry p (Flag record { 0 = v } flag.Down)) (urbs_of s) in
       let marks : List Entry = marks_of p Shutdown (urbs_of s) d.marks in
       let claims : List Entry = claims_of p (urbs_of s) d.rests in
       stills_begin u ((flags ++ marks) ++ claims)
       (AreStill-append (flags ++ marks) claims (AreStill-append flags marks (flags_still p flag.Down (urbs_of s)) (marks_still p Shutdown (urbs_of s) d.marks)) (claims_still p (urbs_of s) d.rests))
-  deed_begins deed.Up told.Done = go d.down
+  host_call_begins host_call.Up told.Done = go d.down
     where
-      go : (b : Bool) → AllBegin u (deed_entries s p d.call deed.Up told.Done d.marks d.rests b)
-      go true = stills_begin u (deed_entries s p d.call deed.Up told.Done d.marks d.rests true) (unflags_still p flag.Down (urbs_of s))
+      go : (b : Bool) → AllBegin u (host_call_entries s p d.call host_call.Up told.Done d.marks d.rests b)
+      go true = stills_begin u (host_call_entries s p d.call host_call.Up told.Done d.marks d.rests true) (unflags_still p flag.Down (urbs_of s))
       go false = tt
-  deed_begins _ _ = tt
+  host_call_begins _ _ = tt
 
 -- and those of main
 module _ (u : ℕ) (s : Scene) where
-  calls_begin : (ds : List Doing) → AllBegin u (flat_map (call_entries s) ds)
-  calls_begin = flat_begins u (call_entries s) (λ d. deed_begins u s (pass_of s d.thread) d (deed_of s d.call) d.answer)
+  calls_begin : (ds : List CallRecord) → AllBegin u (flat_map (call_entries s) ds)
+  calls_begin = flat_begins u (call_entries s) (λ d. host_call_begins u s (pass_of s d.thread) d (host_call_of s d.call) d.answer)
 
   read_begins : (v n : ℕ) (o : Option ℕ) → AllBegin u (read_entries_by s v (option_map (reading n) o))
   read_begins v n None = tt
@@ -155,11 +155,11 @@ module _ (u : ℕ) (s : Scene) where
       (λ all. none (λ i l. dite (ℕ_discrete i n) (λ same e. off (e ∙ ap (pass_of s) same)) (λ other. all i (omega arith)))))
 
   -- what a pass beside the server submits
-  pub parts_begin : (h : List Entry) (doings : List Doing) (rounds : List Giveback) → IsRun s h doings rounds → (p : ℕ) → p ≢ SERVER → AllBegin u (part_of h p)
-  parts_begin h doings rounds run p off = dite (ℕ_discrete p (main_pass s))
+  pub parts_begin : (h : List Entry) (call_records : List CallRecord) (rounds : List Giveback) → IsRun s h call_records rounds → (p : ℕ) → p ≢ SERVER → AllBegin u (part_of h p)
+  parts_begin h call_records rounds run p off = dite (ℕ_discrete p (main_pass s))
       (λ main. subst (λ p. AllBegin u (part_of h p)) (sym main) (main_begins h run.framed))
       (λ other. which p (AllBegin u (part_of h p)) (length s.threads)
-      (λ i near is. subst (λ p. AllBegin u (part_of h p)) (sym is) (subst (AllBegin u) (sym (run.threads i near)) (calls_begin (done_by i doings))))
+      (λ i near is. subst (λ p. AllBegin u (part_of h p)) (sym is) (subst (AllBegin u) (sym (run.threads i near)) (calls_begin (done_by i call_records))))
       (λ none. subst (AllBegin u) (sym (run.others p off other none)) tt))
 
 -- an entry of a pass
@@ -177,19 +177,19 @@ question_begins Keyboard o t is = cc
 question_begins Acm o t is = cc
 question_begins Printer o t is = let same : question_of o.number o.interface ≡ t = cc in sym (ap (λ (t : Transfer). t.from) same)
 
-with_begins : (c : Option UrbId) (q : Option Transfer) (a : Asking) → ((t : Transfer) → q ≡ Some t → t.from ≡ 0) → asking_with c q ≡ Some a → a.transfer.from ≡ 0
+with_begins : (c : Option UrbId) (q : Option Transfer) (a : Question) → ((t : Transfer) → q ≡ Some t → t.from ≡ 0) → question_with c q ≡ Some a → a.transfer.from ≡ 0
 with_begins None q a begins is = cc
 with_begins (Some v) None a begins is = cc
-with_begins (Some v) (Some t) a begins is = let same : record { urb = v.0; transfer = t } ≡ a = cc in sym (ap (λ (a : Asking). a.transfer.from) same) ∙ begins t refl
+with_begins (Some v) (Some t) a begins is = let same : record { urb = v.0; transfer = t } ≡ a = cc in sym (ap (λ (a : Question). a.transfer.from) same) ∙ begins t refl
 
-pub asking_begins : (s : Scene) (v : ℕ) (a : Asking) → asking_of s v ≡ Some a → a.transfer.from ≡ 0
-unfolding asking_of
+pub asking_begins : (s : Scene) (v : ℕ) (a : Question) → question_at s v ≡ Some a → a.transfer.from ≡ 0
+unfolding question_at
 asking_begins s v a is = go (owner_of s v) is
   where
-    by : (o : Owner) (b : Bool) → cond b None (asking_with o.ctl (question_by o.driver (origin_of s o.place))) ≡ Some a → a.transfer.from ≡ 0
+    by : (o : Owner) (b : Bool) → cond b None (question_with o.ctl (question_by o.driver (origin_of s o.place))) ≡ Some a → a.transfer.from ≡ 0
     by o true is = cc
     by o false is = with_begins o.ctl (question_by o.driver (origin_of s o.place)) a (question_begins o.driver (origin_of s o.place)) is
 
-    go : (o : Option Owner) → asking_by s o ≡ Some a → a.transfer.from ≡ 0
+    go : (o : Option Owner) → owner_question s o ≡ Some a → a.transfer.from ≡ 0
     go None is = cc
     go (Some o) is = by o (is_ctl o.role) is

@@ -11,8 +11,8 @@ use Rattle.usb_prepare.specs.Enumerated.{enumerated}
 use Rattle.usb_prepare.specs.Ends.{attached_as, device_ends, shapes_of}
 use Rattle.usb_prepare.specs.Prepared.{probes_of}
 use Rattle.usb_prepare.specs.Layout.{homes_of, role_urb}
-use Rattle.usb_line.specs.declared.made.Deed.TheVariants as deed
-use Rattle.usb_line.specs.Prepared.{fresh, submit_fault, deed_of}
+use Rattle.usb_line.specs.declared.made.HostCall.TheVariants as host_call
+use Rattle.usb_line.specs.Prepared.{fresh, submit_fault, host_call_of}
 use Rattle.usb_line.proofs.ExampleScenes.{transfer, typing, port, printing, own}
 
 -- a call on this line, by its number in the table of calls
@@ -26,7 +26,7 @@ call line code target bytes =
 abbrev led : Target → Call
 led target = call 8 23 target (Some (0x02 ∷ []))
 
-lights_are_sent : (deed_of typing (led (on.Interface 0 0)) ≡ deed.Submit 1)
+lights_are_sent : (host_call_of typing (led (on.Interface 0 0)) ≡ host_call.Submit 1)
     × (fresh typing 1 (led (on.Interface 0 0))
     ≡ record (transfer 8 (0x02 ∷ []) 0 1 0) { setup = Some (0x21 ∷ 0x09 ∷ 0x00 ∷ 0x02 ∷ 0x00 ∷ 0x00 ∷ 0x01 ∷ 0x00 ∷ []) })
 unfolding probes_of enumerated attached_as device_ends shapes_of first_state
@@ -38,20 +38,20 @@ unfolding homes_of probes_of enumerated attached_as device_ends shapes_of first_
 lights_have_no_fault = refl
 
 -- interface 1 is not there, and a keyboard has no bytes to write: the call does nothing. The same holds of a purpose that it has no URB for
-what_a_keyboard_lacks : (deed_of typing (led (on.Interface 0 1)) ≡ deed.Absent)
-    × (deed_of typing (call 8 24 (on.Interface 0 0) (Some (0x41 ∷ []))) ≡ deed.Absent)
-    × (deed_of typing (call 8 3 (on.Role 0 0 role.Read0) None) ≡ deed.Absent)
-    × (deed_of typing (call 8 3 (on.Role 0 1 role.In) None) ≡ deed.Absent)
+what_a_keyboard_lacks : (host_call_of typing (led (on.Interface 0 1)) ≡ host_call.Absent)
+    × (host_call_of typing (call 8 24 (on.Interface 0 0) (Some (0x41 ∷ []))) ≡ host_call.Absent)
+    × (host_call_of typing (call 8 3 (on.Role 0 0 role.Read0) None) ≡ host_call.Absent)
+    × (host_call_of typing (call 8 3 (on.Role 0 1 role.In) None) ≡ host_call.Absent)
 unfolding role_urb probes_of enumerated attached_as device_ends shapes_of first_state
 what_a_keyboard_lacks = (refl, refl, refl, refl)
 
 -- the calls on the URB that it has: unlink, kill, poison, unpoison, block and unblock
-calls_on_its_read : (deed_of typing (call 8 2 (on.Role 0 0 role.In) None) ≡ deed.Unlink 0)
-    × (deed_of typing (call 8 3 (on.Role 0 0 role.In) None) ≡ deed.Kill 0)
-    × (deed_of typing (call 8 4 (on.Role 0 0 role.In) None) ≡ deed.Poison 0)
-    × (deed_of typing (call 8 5 (on.Role 0 0 role.In) None) ≡ deed.Unpoison 0)
-    × (deed_of typing (call 8 6 (on.Role 0 0 role.Ctl) None) ≡ deed.Block 1)
-    × (deed_of typing (call 8 7 (on.Role 0 0 role.Ctl) None) ≡ deed.Unblock 1)
+calls_on_its_read : (host_call_of typing (call 8 2 (on.Role 0 0 role.In) None) ≡ host_call.Unlink 0)
+    × (host_call_of typing (call 8 3 (on.Role 0 0 role.In) None) ≡ host_call.Kill 0)
+    × (host_call_of typing (call 8 4 (on.Role 0 0 role.In) None) ≡ host_call.Poison 0)
+    × (host_call_of typing (call 8 5 (on.Role 0 0 role.In) None) ≡ host_call.Unpoison 0)
+    × (host_call_of typing (call 8 6 (on.Role 0 0 role.Ctl) None) ≡ host_call.Block 1)
+    × (host_call_of typing (call 8 7 (on.Role 0 0 role.Ctl) None) ≡ host_call.Unblock 1)
 unfolding role_urb probes_of enumerated attached_as device_ends shapes_of first_state
 calls_on_its_read = (refl, refl, refl, refl, refl, refl)
 
@@ -65,18 +65,18 @@ write target = call 6 24 target (Some (0x41 ∷ 0x42 ∷ 0x43 ∷ []))
 abbrev coding : Call
 coding = record (call 7 25 (on.Interface 0 0) None) { numbers = 9600 ∷ 0 ∷ 0 ∷ 8 ∷ [] }
 
-what_a_port_sends : (deed_of port (write (on.Interface 0 0)) ≡ deed.Submit 3)
+what_a_port_sends : (host_call_of port (write (on.Interface 0 0)) ≡ host_call.Submit 3)
     × (fresh port 3 (write (on.Interface 0 0)) ≡ transfer 6 (0x41 ∷ 0x42 ∷ 0x43 ∷ []) 0 3 0)
-    × (deed_of port coding ≡ deed.Submit 4)
+    × (host_call_of port coding ≡ host_call.Submit 4)
     × (fresh port 4 coding
     ≡ record (transfer 7 (0x80 ∷ 0x25 ∷ 0x00 ∷ 0x00 ∷ 0x00 ∷ 0x00 ∷ 0x08 ∷ []) 0 7 0) { setup = Some (0x21 ∷ 0x20 ∷ 0x00 ∷ 0x00 ∷ 0x00 ∷ 0x00 ∷ 0x07 ∷ 0x00 ∷ []) })
 unfolding probes_of enumerated attached_as device_ends shapes_of first_state
 what_a_port_sends = (refl, refl, refl, refl)
 
 -- the port is named by interface 0: the driver has interface 1 too, but a call on it does nothing
-the_data_interface_has_no_calls : (deed_of port (write (on.Interface 0 1)) ≡ deed.Absent)
-    × (deed_of port (call 6 3 (on.Role 0 1 role.Read1) None) ≡ deed.Absent)
-    × (deed_of port (call 6 3 (on.Role 0 0 role.Read1) None) ≡ deed.Kill 2)
+the_data_interface_has_no_calls : (host_call_of port (write (on.Interface 0 1)) ≡ host_call.Absent)
+    × (host_call_of port (call 6 3 (on.Role 0 1 role.Read1) None) ≡ host_call.Absent)
+    × (host_call_of port (call 6 3 (on.Role 0 0 role.Read1) None) ≡ host_call.Kill 2)
 unfolding role_urb probes_of enumerated attached_as device_ends shapes_of first_state
 the_data_interface_has_no_calls = (refl, refl, refl)
 
@@ -87,23 +87,23 @@ abbrev print : List ℕ → Call
 print bytes = call 6 28 (on.Interface 0 0) (Some bytes)
 
 a_job_begins : (bytes : List ℕ) → length bytes ≡ 10000
-    → (deed_of printing (print bytes) ≡ deed.Submit 0) × (fresh printing 0 (print bytes) ≡ transfer 6 bytes 0 8192 0)
+    → (host_call_of printing (print bytes) ≡ host_call.Submit 0) × (fresh printing 0 (print bytes) ≡ transfer 6 bytes 0 8192 0)
 unfolding probes_of enumerated attached_as device_ends shapes_of first_state
 a_job_begins bytes e = (refl, rw e refl)
 
 -- `status prn 0` and `softreset prn 0` on lines 7 and 8 are GET_PORT_STATUS, with room for its byte, and SOFT_RESET (printer class 1.1,
 -- §4.2.2 and §4.2.3)
-what_else_a_printer_is_sent : (deed_of printing (call 7 29 (on.Interface 0 0) None) ≡ deed.Submit 1)
+what_else_a_printer_is_sent : (host_call_of printing (call 7 29 (on.Interface 0 0) None) ≡ host_call.Submit 1)
     × (fresh printing 1 (call 7 29 (on.Interface 0 0) None)
     ≡ record (transfer 7 (0x00 ∷ []) 0 1 0) { setup = Some (0xA1 ∷ 0x01 ∷ 0x00 ∷ 0x00 ∷ 0x00 ∷ 0x00 ∷ 0x01 ∷ 0x00 ∷ []) })
-    × (deed_of printing (call 8 30 (on.Interface 0 0) None) ≡ deed.Submit 1)
+    × (host_call_of printing (call 8 30 (on.Interface 0 0) None) ≡ host_call.Submit 1)
     × (fresh printing 1 (call 8 30 (on.Interface 0 0) None)
     ≡ record (transfer 8 [] 0 0 0) { setup = Some (0x21 ∷ 0x02 ∷ 0x00 ∷ 0x00 ∷ 0x00 ∷ 0x00 ∷ 0x00 ∷ 0x00 ∷ []) })
 unfolding probes_of enumerated attached_as device_ends shapes_of first_state
 what_else_a_printer_is_sent = (refl, refl, refl, refl)
 
 -- a printer has no lights, and nothing is printed on interface 1
-what_a_printer_lacks : (deed_of printing (led (on.Interface 0 0)) ≡ deed.Absent) × (deed_of printing (call 6 28 (on.Interface 0 1) (Some (0x41 ∷ []))) ≡ deed.Absent)
+what_a_printer_lacks : (host_call_of printing (led (on.Interface 0 0)) ≡ host_call.Absent) × (host_call_of printing (call 6 28 (on.Interface 0 1) (Some (0x41 ∷ []))) ≡ host_call.Absent)
 unfolding probes_of enumerated attached_as device_ends shapes_of first_state
 what_a_printer_lacks = (refl, refl)
 
@@ -125,11 +125,11 @@ unfolding homes_of probes_of attached_as device_ends shapes_of
 which_submits_have_a_fault = (refl, refl, refl)
 
 -- what the calls do on an URB and on nothing; calls on anchors and devices are not made at this stage
-what_calls_do : (deed_of own (call 9 1 (on.Urb 0) None) ≡ deed.Submit 0)
-    × (deed_of own (call 9 2 (on.Urb 1) None) ≡ deed.Unlink 1)
-    × (deed_of own (call 9 3 (on.Urb 2) None) ≡ deed.Kill 2)
-    × (deed_of own (call 9 8 on.Nothing None) ≡ deed.Serve)
-    × (deed_of own (call 9 21 on.Nothing None) ≡ deed.Down)
-    × (deed_of own (call 9 22 on.Nothing None) ≡ deed.Up)
-    × (deed_of own (call 9 17 (on.Anchor 0) None) ≡ deed.Other)
+what_calls_do : (host_call_of own (call 9 1 (on.Urb 0) None) ≡ host_call.Submit 0)
+    × (host_call_of own (call 9 2 (on.Urb 1) None) ≡ host_call.Unlink 1)
+    × (host_call_of own (call 9 3 (on.Urb 2) None) ≡ host_call.Kill 2)
+    × (host_call_of own (call 9 8 on.Nothing None) ≡ host_call.Serve)
+    × (host_call_of own (call 9 21 on.Nothing None) ≡ host_call.Down)
+    × (host_call_of own (call 9 22 on.Nothing None) ≡ host_call.Up)
+    × (host_call_of own (call 9 17 (on.Anchor 0) None) ≡ host_call.Other)
 what_calls_do = (refl, refl, refl, refl, refl, refl, refl)

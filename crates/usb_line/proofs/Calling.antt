@@ -11,19 +11,19 @@ use Rattle.usb_scene.specs.declared.scene.Scene.{Scene}
 use Rattle.usb_scene.specs.declared.scene.Call.{Call}
 use Rattle.usb_prepare.specs.Layout.{urb_count}
 use Rattle.usb_line.specs.declared.run.LineRun.{LineRun}
-use Rattle.usb_line.specs.declared.made.Deed.{Deed}
-use Rattle.usb_line.specs.declared.made.Deed.TheVariants as deed
+use Rattle.usb_line.specs.declared.made.HostCall.{HostCall}
+use Rattle.usb_line.specs.declared.made.HostCall.TheVariants as host_call
 use Rattle.usb_line.specs.declared.made.CallAnswer.{CallAnswer}
 use Rattle.usb_line.specs.declared.made.CallAnswer.TheVariants as told
-use Rattle.usb_line.specs.Prepared.{machine_of, pass_of, deed_of}
+use Rattle.usb_line.specs.Prepared.{machine_of, pass_of, host_call_of}
 use Rattle.usb_prepare.specs.Below.{below}
-use Rattle.usb_line.specs.Run.{Doing, deed_entries, down_after, urbs_of}
-use Rattle.usb_line.specs.Line.{Progress, adds, doing, answer_now, Makes, at_once, served, killed, poisoned, killing, WaitsFor, shutting, shut_marks, ClaimsEach, shut_down}
+use Rattle.usb_line.specs.Run.{CallRecord, host_call_entries, down_after, urbs_of}
+use Rattle.usb_line.specs.Line.{Progress, adds, call_record, answer_now, Makes, at_once, served, killed, poisoned, killing, WaitsFor, shutting, shut_marks, ClaimsEach, shut_down}
 use Rattle.usb_line.specs.Shows.{Shows, Served}
 use Rattle.usb_line.specs.Calls.{MayKill, Stopped, Killed, MayMake, Made, MayBeMade, Claimed}
 use Rattle.usb_line.proofs.Stills.{AreStill, unflags_still}
 use Rattle.usb_line.proofs.Held.{rejects_at}
-use Rattle.usb_line.proofs.Deeds.{withdraws, is_hubs, IsThere, deed_there}
+use Rattle.usb_line.proofs.HostCalls.{withdraws, is_hubs, IsThere, host_call_there}
 use Rattle.usb_line.proofs.Passes.{not_server, is_pass}
 use Rattle.usb_line.proofs.Nows.{CanCall, state_down}
 use Rattle.usb_line.proofs.Calls.{Goes, line_goes, can_call, few_held}
@@ -34,7 +34,7 @@ use Rattle.usb_types.specs.declared.errno.Code.TheVariants.{Fault}
 use Rattle.usb_types.specs.declared.urb.Flag.TheVariants as flag
 use Rattle.usb_machine.specs.declared.event.Event.TheVariants.{Unflag}
 
-module _ (s : Scene) (f : Progress) (i : ℕ) (c : Call) (run : LineRun) (p : ℕ) (d : Deed) (may : MayMake s f i c run p d) where
+module _ (s : Scene) (f : Progress) (i : ℕ) (c : Call) (run : LineRun) (p : ℕ) (d : HostCall) (may : MayMake s f i c run p d) where
   pub goes : Goes s f
   goes = line_goes s may.good f may.next.in_line ((i, c) ∷ may.next.rest) may.next.all
 
@@ -48,7 +48,7 @@ module _ (s : Scene) (f : Progress) (i : ℕ) (c : Call) (run : LineRun) (p : �
   other e = not_server s i (may.pass ∙ e)
 
   pub is_there : IsThere s d
-  is_there = subst (IsThere s) may.does (deed_there s may.good c can.is)
+  is_there = subst (IsThere s) may.does (host_call_there s may.good c can.is)
 
   -- the pass holds few rejects
   pub few : (v : ℕ) → rejects_at v (part_of f.history p) ≤ 100
@@ -70,54 +70,54 @@ module _ (s : Scene) (f : Progress) (i : ℕ) (c : Call) (run : LineRun) (p : �
   -- a call that answers at once
   module _ (a : CallAnswer) (after : Plain) (b : Bool) where
     abbrev entries : List Entry
-    entries = deed_entries s p c d a [] [] f.down
+    entries = host_call_entries s p c d a [] [] f.down
 
-    abbrev at : ℕ → Deed → List Entry
-    at p d = deed_entries s p c d a [] [] f.down
+    abbrev at : ℕ → HostCall → List Entry
+    at p d = host_call_entries s p c d a [] [] f.down
 
-    same : entries ≡ at (pass_of s i) (deed_of s c)
+    same : entries ≡ at (pass_of s i) (host_call_of s c)
     same j = at (sym may.pass j) (sym may.does j)
 
     pub made_now : answer_now s f c d ≡ Some a → AreStill entries → Stands after (machine_of s) (f.history ++ entries) → b ≡ down_after f.down d a → Made s f i c a (record run { plain = after; down = b })
     made_now e still stands down =
-        let xs : List Entry = at (pass_of s i) (deed_of s c) in
+        let xs : List Entry = at (pass_of s i) (host_call_of s c) in
         record {
-          did = doing f i c a [] [];
+          did = call_record f i c a [] [];
           far = adds f xs;
           makes = at_once a (ap (answer_now s f c) may.does ∙ e);
           told = refl;
           shows = shows_called s (adds f xs) (record run { plain = after })
               (shows_still s f xs (subst AreStill same still) run after may.shows (subst (λ xs. Stands after (machine_of s) (f.history ++ xs)) same stands))
-              (doing f i c a [] []) b (down ∙ ap (λ d. down_after f.down d a) (sym may.does));
+              (call_record f i c a [] []) b (down ∙ ap (λ d. down_after f.down d a) (sym may.does));
         }
 
   -- a call that leaves the host as it is
-  made_as : (did : Doing) (m : Progress) (now : LineRun) (a : CallAnswer) → Makes s f i c did m → did.call ≡ c → did.answer ≡ a → Shows s m now → ((b : Bool) → down_after b d a ≡ b) → Made s f i c a now
+  made_as : (did : CallRecord) (m : Progress) (now : LineRun) (a : CallAnswer) → Makes s f i c did m → did.call ≡ c → did.answer ≡ a → Shows s m now → ((b : Bool) → down_after b d a ≡ b) → Made s f i c a now
   made_as did m now a makes is told shows same = record {
     did = did;
     far = m;
     makes = makes;
     told = told;
-    shows = shows_called s m now shows did now.down (shows.host ∙ (sym (same m.down) ∙ (λ j. down_after m.down (sym (ap (deed_of s) is ∙ may.does) j) (sym told j))));
+    shows = shows_called s m now shows did now.down (shows.host ∙ (sym (same m.down) ∙ (λ j. down_after m.down (sym (ap (host_call_of s) is ∙ may.does) j) (sym told j))));
   }
 
   module _ (u : ℕ) (rest : Option ℕ) (now : LineRun) where
     -- a kill, and a poison
-    pub made_kill : d ≡ deed.Kill u → Killed s f p u rest now → Made s f i c (told.Buffer rest) now
+    pub made_kill : d ≡ host_call.Kill u → Killed s f p u rest now → Made s f i c (told.Buffer rest) now
     made_kill is k =
         let waits : WaitsFor s u (killing (pass_of s i) u f) k.far = subst (λ p. WaitsFor s u (killing p u f) k.far) (sym may.pass) k.waits in
         let far : Progress = adds k.far (claim_entries (pass_of s i) u (state_of k.far.history u).rest ++ unblock_entries (pass_of s i) u) in
         made_as _ far now (told.Buffer rest) (killed u k.far (may.does ∙ is) waits) refl (ap told.Buffer (sym k.told))
         (subst (λ p. Shows s (adds k.far (claim_entries p u (state_of k.far.history u).rest ++ unblock_entries p u)) now) (sym may.pass) k.shows) (λ b. ap (λ d. down_after b d (told.Buffer rest)) is)
 
-    pub made_poison : d ≡ deed.Poison u → Stopped s f p u rest now → Made s f i c (told.Buffer rest) now
+    pub made_poison : d ≡ host_call.Poison u → Stopped s f p u rest now → Made s f i c (told.Buffer rest) now
     made_poison is k =
         let waits : WaitsFor s u (killing (pass_of s i) u f) k.far = subst (λ p. WaitsFor s u (killing p u f) k.far) (sym may.pass) k.waits in
         let far : Progress = adds k.far (claim_entries (pass_of s i) u (state_of k.far.history u).rest) in
         made_as _ far now (told.Buffer rest) (poisoned u k.far (may.does ∙ is) waits) refl (ap told.Buffer (sym k.told))
         (subst (λ p. Shows s (adds k.far (claim_entries p u (state_of k.far.history u).rest)) now) (sym may.pass) k.shows) (λ b. ap (λ d. down_after b d (told.Buffer rest)) is)
 
-  pub made_serve : (now : LineRun) → d ≡ deed.Serve → Served s f now → Made s f i c told.Nothing now
+  pub made_serve : (now : LineRun) → d ≡ host_call.Serve → Served s f now → Made s f i c told.Nothing now
   made_serve now is k = made_as _ k.last now told.Nothing (served k.middle k.last (may.does ∙ is) k.gave k.idle) refl refl k.shows (λ b. ap (λ d. down_after b d told.Nothing) is)
 
   -- the hub's flag on each URB says whether the host is down
@@ -126,11 +126,11 @@ module _ (s : Scene) (f : Progress) (i : ℕ) (c : Call) (run : LineRun) (p : �
 
 -- the hub's calls
 module _ (s : Scene) (f : Progress) (i : ℕ) (c : Call) (run : LineRun) where
-  module _ (may : MayMake s f i c run HUB deed.Down) where
+  module _ (may : MayMake s f i c run HUB host_call.Down) where
     pub was_down : run.down ≡ true → Made s f i c (told.Code (Fault ESHUTDOWN)) run
     was_down is =
         let down : f.down ≡ true = sym may.shows.host ∙ is in
-        made_now s f i c run HUB deed.Down may (told.Code (Fault ESHUTDOWN)) run.plain run.down (ap (λ b. cond b (Some (told.Code (Fault ESHUTDOWN))) None) down) tt
+        made_now s f i c run HUB host_call.Down may (told.Code (Fault ESHUTDOWN)) run.plain run.down (ap (λ b. cond b (Some (told.Code (Fault ESHUTDOWN))) None) down) tt
         (subst (Stands run.plain (machine_of s)) (sym (append-nil f.history)) may.shows.stands) may.shows.host
 
     pub made_down : (n : ℕ) (now : LineRun) → run.down ≡ false → n ≡ urb_count s → Claimed s (shutting s HUB f) n now → Made s f i c told.Done (record now { down = true })
@@ -139,7 +139,7 @@ module _ (s : Scene) (f : Progress) (i : ℕ) (c : Call) (run : LineRun) where
         let p : ℕ = pass_of s i in
         let claims : ClaimsEach s p (shutting s p f) (urbs_of s) k.rests k.far
         = subst (λ q. ClaimsEach s q (shutting s q f) (urbs_of s) k.rests k.far) (sym may.pass) (subst (λ n. ClaimsEach s HUB (shutting s HUB f) (below n) k.rests k.far) all k.claims) in
-        let did : Doing = doing f i c told.Done (shut_marks s p f) k.rests in
+        let did : CallRecord = call_record f i c told.Done (shut_marks s p f) k.rests in
         record {
           did = did;
           far = k.far;
@@ -148,29 +148,29 @@ module _ (s : Scene) (f : Progress) (i : ℕ) (c : Call) (run : LineRun) where
           shows = shows_called s k.far now k.is.shows did true (ap (λ d. down_after k.far.down d told.Done) (sym may.does));
         }
 
-  module _ (may : MayMake s f i c run HUB deed.Up) where
+  module _ (may : MayMake s f i c run HUB host_call.Up) where
     abbrev ups : Bool → List Entry
-    ups b = deed_entries s HUB c deed.Up told.Done [] [] b
+    ups b = host_call_entries s HUB c host_call.Up told.Done [] [] b
 
     pub was_up : run.down ≡ false → Made s f i c told.Done run
     was_up is =
         let up : f.down ≡ false = sym may.shows.host ∙ is in
-        made_now s f i c run HUB deed.Up may told.Done run.plain run.down refl (subst (λ b. AreStill (ups b)) (sym up) tt)
+        made_now s f i c run HUB host_call.Up may told.Done run.plain run.down refl (subst (λ b. AreStill (ups b)) (sym up) tt)
         (subst (λ b. Stands run.plain (machine_of s) (f.history ++ ups b)) (sym up) (subst (Stands run.plain (machine_of s)) (sym (append-nil f.history)) may.shows.stands)) is
 
     pub made_up : (n : ℕ) (after : Plain) → run.down ≡ true → n ≡ urb_count s
         → Stands after (machine_of s) (f.history ++ map (λ u. plain_entry HUB (Unflag record { 0 = u } flag.Down)) (below n)) → Made s f i c told.Done (record run { plain = after; down = false })
     made_up n after is all stands =
         let down : f.down ≡ true = sym may.shows.host ∙ is in
-        made_now s f i c run HUB deed.Up may told.Done after false refl (subst (λ b. AreStill (ups b)) (sym down) (unflags_still HUB flag.Down (urbs_of s)))
+        made_now s f i c run HUB host_call.Up may told.Done after false refl (subst (λ b. AreStill (ups b)) (sym down) (unflags_still HUB flag.Down (urbs_of s)))
         (subst (λ b. Stands after (machine_of s) (f.history ++ ups b)) (sym down)
         (subst (λ n. Stands after (machine_of s) (f.history ++ map (λ u. plain_entry HUB (Unflag record { 0 = u } flag.Down)) (below n))) all stands)) refl
 
 -- a call that may be made, by what it does
-pub may_make : (s : Scene) (f : Progress) (i : ℕ) (c : Call) (run : LineRun) (p : ℕ) (d : Deed) → MayBeMade s f i c run → d ≡ deed_of s c → p ≡ pass_of s i → MayMake s f i c run p d
+pub may_make : (s : Scene) (f : Progress) (i : ℕ) (c : Call) (run : LineRun) (p : ℕ) (d : HostCall) → MayBeMade s f i c run → d ≡ host_call_of s c → p ≡ pass_of s i → MayMake s f i c run p d
 may_make s f i c run p d may is pass = record { good = may.good; next = may.next; shows = may.shows; does = sym is; pass = sym pass }
 
-pub may_hub : (s : Scene) (f : Progress) (i : ℕ) (c : Call) (run : LineRun) (d : Deed) → MayBeMade s f i c run → d ≡ deed_of s c → is_hubs d ≡ true → MayMake s f i c run HUB d
+pub may_hub : (s : Scene) (f : Progress) (i : ℕ) (c : Call) (run : LineRun) (d : HostCall) → MayBeMade s f i c run → d ≡ host_call_of s c → is_hubs d ≡ true → MayMake s f i c run HUB d
 may_hub s f i c run d may is hubs =
     let own : MayMake s f i c run (pass_of s i) d = may_make s f i c run (pass_of s i) d may is refl in
     record { good = may.good; next = may.next; shows = may.shows; does = sym is; pass = is_hub s f i c run (pass_of s i) d own hubs }

@@ -19,15 +19,15 @@ use Rattle.usb_scene.specs.declared.scene.SceneThread.{SceneThread}
 use Rattle.usb_scene.specs.declared.scene.Call.{Call}
 use Rattle.usb_scene.specs.WellFormed.{IsCall, IsThread, IsWellFormed, is_hub_call}
 use Rattle.usb_prepare.specs.Layout.{urb_count}
-use Rattle.usb_line.specs.declared.made.Deed.{Deed}
-use Rattle.usb_line.specs.declared.made.Deed.TheVariants as deed
+use Rattle.usb_line.specs.declared.made.HostCall.{HostCall}
+use Rattle.usb_line.specs.declared.made.HostCall.TheVariants as host_call
 use Rattle.usb_line.specs.declared.made.CallAnswer.{CallAnswer}
 use Rattle.usb_line.specs.declared.made.CallAnswer.TheVariants as told
-use Rattle.usb_line.specs.Prepared.{pass_of, main_pass, deed_of, calls_of, is_hub}
-use Rattle.usb_line.specs.Run.{Doing, urbs_of, opening, call_entries, deed_entries, IsMade, IsAnswered, down_after, AreDowns, done_by}
-use Rattle.usb_line.specs.Line.{Progress, begun, adds, doing, with_doing, woken, killing, shutting, ClaimsEach, none, one, Makes, at_once, served, killed, poisoned, shut_down, IsLine, start, call}
+use Rattle.usb_line.specs.Prepared.{pass_of, main_pass, host_call_of, calls_of, is_hub}
+use Rattle.usb_line.specs.Run.{CallRecord, urbs_of, opening, call_entries, host_call_entries, IsMade, IsAnswered, down_after, AreDowns, done_by}
+use Rattle.usb_line.specs.Line.{Progress, begun, adds, call_record, with_call_record, woken, killing, shutting, ClaimsEach, none, one, Makes, at_once, served, killed, poisoned, shut_down, IsLine, start, call}
 use Rattle.usb_line.proofs.Held.{rejects_at, down_at}
-use Rattle.usb_line.proofs.Deeds.{raises, withdraws, is_hubs, named, deed_hubs, sum_raised, sum_withdrawn, withdraws_named, withdraws_own, none_or_named}
+use Rattle.usb_line.proofs.HostCalls.{raises, withdraws, is_hubs, named, host_call_hubs, sum_raised, sum_withdrawn, withdraws_named, withdraws_own, none_or_named}
 use Rattle.usb_line.proofs.Effects.{rejects_effect, down_effect}
 use Rattle.usb_line.proofs.Entries.{AreOf, part_own, part_other}
 use Rattle.usb_line.proofs.Serving.{Serves}
@@ -41,30 +41,30 @@ use Rattle.usb_line.proofs.Nows.{CanCall, IsCalled, now_called}
 use Rattle.usb_line.proofs.Downs.{down_called}
 
 -- whether the host is down after some calls
-abbrev pub down_by : Scene → Bool → List Doing → Bool
+abbrev pub down_by : Scene → Bool → List CallRecord → Bool
 down_by s b [] = b
-down_by s b (d ∷ ds) = down_by s (down_after b (deed_of s d.call) d.answer) ds
+down_by s b (d ∷ ds) = down_by s (down_after b (host_call_of s d.call) d.answer) ds
 
 -- how many rejects these calls raised on URB v, and how many they withdrew
 abbrev pub sum_raised_by : Scene → ℕ → List Call → ℕ
-sum_raised_by s v calls = sum_by (λ c. raises v (deed_of s c)) calls
+sum_raised_by s v calls = sum_by (λ c. raises v (host_call_of s c)) calls
 
 abbrev pub sum_withdrawn_by : Scene → ℕ → List Call → ℕ
-sum_withdrawn_by s v calls = sum_by (λ c. withdraws v (deed_of s c)) calls
+sum_withdrawn_by s v calls = sum_by (λ c. withdraws v (host_call_of s c)) calls
 
 -- what holds between the calls of a run in line order
 pub record Goes (s : Scene) (f : Progress) : Type 0 where
   pub serves : Serves s f
-  pub threads : (i : ℕ) → i < length s.threads → part_of f.history (pass_of s i) ≡ flat_map (call_entries s) (done_by i f.doings)
+  pub threads : (i : ℕ) → i < length s.threads → part_of f.history (pass_of s i) ≡ flat_map (call_entries s) (done_by i f.call_records)
   pub main : part_of f.history (main_pass s) ≡ opening s
   pub others : (p : ℕ) → p ≢ SERVER → p ≢ main_pass s → ((i : ℕ) → i < length s.threads → p ≢ pass_of s i) → part_of f.history p ≡ []
-  pub told : All (IsMade s) f.doings
-  pub downs : AreDowns s false f.doings
-  pub down : down_by s false f.doings ≡ f.down
+  pub told : All (IsMade s) f.call_records
+  pub downs : AreDowns s false f.call_records
+  pub down : down_by s false f.call_records ≡ f.down
   -- the hub holds its flag on each URB exactly where the host is down
   pub flags : (v : ℕ) → v < urb_count s → down_at v (part_of f.history HUB) ≡ f.down
   -- a thread holds the rejects that its calls raised and did not withdraw
-  pub rejects : (i : ℕ) → i < length s.threads → (v : ℕ) → rejects_at v (part_of f.history (pass_of s i)) + sum_withdrawn_by s v (calls_by i f.doings) ≡ sum_raised_by s v (calls_by i f.doings)
+  pub rejects : (i : ℕ) → i < length s.threads → (v : ℕ) → rejects_at v (part_of f.history (pass_of s i)) + sum_withdrawn_by s v (calls_by i f.call_records) ≡ sum_raised_by s v (calls_by i f.call_records)
 
 -- after the drivers' reads
 pub goes_begun : (s : Scene) → IsWellFormed s → Goes s (begun s)
@@ -83,23 +83,23 @@ goes_begun s good = record {
     reads : AreOf (main_pass s) (opening s)
     reads = reads_pass s (urb_count s)
 
-AreDowns-push : (s : Scene) (b : Bool) (ds : List Doing) (d : Doing) → AreDowns s b ds → d.down ≡ down_by s b ds → AreDowns s b (ds ++ d ∷ [])
+AreDowns-push : (s : Scene) (b : Bool) (ds : List CallRecord) (d : CallRecord) → AreDowns s b ds → d.down ≡ down_by s b ds → AreDowns s b (ds ++ d ∷ [])
 AreDowns-push s b [] d all e = (e, tt)
-AreDowns-push s b (x ∷ ds) d all e = (all.0, AreDowns-push s (down_after b (deed_of s x.call) x.answer) ds d all.1 e)
+AreDowns-push s b (x ∷ ds) d all e = (all.0, AreDowns-push s (down_after b (host_call_of s x.call) x.answer) ds d all.1 e)
 
-down_by-push : (s : Scene) (b : Bool) (ds : List Doing) (d : Doing) → down_by s b (ds ++ d ∷ []) ≡ down_after (down_by s b ds) (deed_of s d.call) d.answer
+down_by-push : (s : Scene) (b : Bool) (ds : List CallRecord) (d : CallRecord) → down_by s b (ds ++ d ∷ []) ≡ down_after (down_by s b ds) (host_call_of s d.call) d.answer
 down_by-push s b [] d = refl
-down_by-push s b (x ∷ ds) d = down_by-push s (down_after b (deed_of s x.call) x.answer) ds d
+down_by-push s b (x ∷ ds) d = down_by-push s (down_after b (host_call_of s x.call) x.answer) ds d
 
--- a deed that is not the hub's leaves the host as it is
-same_down : (b : Bool) (dd : Deed) (a : CallAnswer) → is_hubs dd ≡ false → down_after b dd a ≡ b
-same_down b deed.Down a e = absurd (true≢false e)
-same_down b deed.Up a e = absurd (true≢false e)
+-- a host_call that is not the hub's leaves the host as it is
+same_down : (b : Bool) (dd : HostCall) (a : CallAnswer) → is_hubs dd ≡ false → down_after b dd a ≡ b
+same_down b host_call.Down a e = absurd (true≢false e)
+same_down b host_call.Up a e = absurd (true≢false e)
 same_down b _ a e = refl
 
 -- the calls made begin those of the scene, and this one is next
 abbrev pub IsNext : Scene → Progress → ℕ → Call → Type 0
-IsNext s f i c = (rest : List (ℕ × Call)) × (map placed f.doings ++ (i, c) ∷ rest ≡ calls_of s)
+IsNext s f i c = (rest : List (ℕ × Call)) × (map placed f.call_records ++ (i, c) ∷ rest ≡ calls_of s)
 
 module _ (s : Scene) (good : IsWellFormed s) (f : Progress) (i : ℕ) (c : Call) (old : Goes s f) (near : i < length s.threads) (next : IsNext s f i c) where
   abbrev p : ℕ
@@ -117,32 +117,32 @@ module _ (s : Scene) (good : IsWellFormed s) (f : Progress) (i : ℕ) (c : Call)
   abbrev behind : List Call
   behind = only_calls (of_thread i next.0)
 
-  split : thread.calls ≡ calls_by i f.doings ++ c ∷ behind
-  split = next_call s f.doings i c next.0 next.1 thread is_at
+  split : thread.calls ≡ calls_by i f.call_records ++ c ∷ behind
+  split = next_call s f.call_records i c next.0 next.1 thread is_at
 
-  all_calls : All (IsCall s) (calls_by i f.doings ++ c ∷ behind)
+  all_calls : All (IsCall s) (calls_by i f.call_records ++ c ∷ behind)
   all_calls = subst (All (IsCall s)) split formed.calls
 
   pub is_call : IsCall s c
-  is_call = All-middle (IsCall s) (calls_by i f.doings) c behind all_calls
+  is_call = All-middle (IsCall s) (calls_by i f.call_records) c behind all_calls
 
-  are_calls : All (IsCall s) (calls_by i f.doings)
-  are_calls = All-front (IsCall s) (calls_by i f.doings) (c ∷ behind) all_calls
+  are_calls : All (IsCall s) (calls_by i f.call_records)
+  are_calls = All-front (IsCall s) (calls_by i f.call_records) (c ∷ behind) all_calls
 
-  is_backed : (v : ℕ) → withdraws v (deed_of s c) ≡ 1 → 0 < rejects_at v (part_of f.history p)
+  is_backed : (v : ℕ) → withdraws v (host_call_of s c) ≡ 1 → 0 < rejects_at v (part_of f.history p)
   is_backed v e =
-      let held = formed.held.held (calls_by i f.doings) c behind c.target split (withdraws_own s good c is_call v e) in
-      let up = sum_raised s good c is_call v (withdraws_named s good c is_call v e) (calls_by i f.doings) are_calls in
-      let down = sum_withdrawn s good c is_call v (withdraws_named s good c is_call v e) (calls_by i f.doings) are_calls in
+      let held = formed.held.held (calls_by i f.call_records) c behind c.target split (withdraws_own s good c is_call v e) in
+      let up = sum_raised s good c is_call v (withdraws_named s good c is_call v e) (calls_by i f.call_records) are_calls in
+      let down = sum_withdrawn s good c is_call v (withdraws_named s good c is_call v e) (calls_by i f.call_records) are_calls in
       let sums = old.rejects i near v in omega arith
 
-  only_hub : is_hubs (deed_of s c) ≡ true → p ≡ HUB
+  only_hub : is_hubs (host_call_of s c) ≡ true → p ≡ HUB
   only_hub e = go (is_hub thread) refl
     where
       go : (b : Bool) → is_hub thread ≡ b → p ≡ HUB
       go true is = hub_pass s i thread is_at is
-      go false is = let none = All-middle (λ (c : Call). is_hub_call c.code ≡ false) (calls_by i f.doings) c behind (subst (All (λ (c : Call). is_hub_call c.code ≡ false)) split (formed.hub is)) in
-          absurd (true≢false (sym e ∙ (sym (deed_hubs s good c is_call) ∙ none)))
+      go false is = let none = All-middle (λ (c : Call). is_hub_call c.code ≡ false) (calls_by i f.call_records) c behind (subst (All (λ (c : Call). is_hub_call c.code ≡ false)) split (formed.hub is)) in
+          absurd (true≢false (sym e ∙ (sym (host_call_hubs s good c is_call) ∙ none)))
 
   pub can_call : CanCall s f i c
   can_call = record { serves = old.serves; near = near; is = is_call; backed = is_backed; hub = only_hub; flags = old.flags }
@@ -150,34 +150,34 @@ module _ (s : Scene) (good : IsWellFormed s) (f : Progress) (i : ℕ) (c : Call)
   -- a script never holds many rejects
   pub few_held : (v : ℕ) → rejects_at v (part_of f.history p) ≤ 100
   few_held v = ⊎_elim
-      (λ (none : sum_raised_by s v (calls_by i f.doings) ≡ 0). let sums = old.rejects i near v in omega arith)
+      (λ (none : sum_raised_by s v (calls_by i f.call_records) ≡ 0). let sums = old.rejects i near v in omega arith)
       (λ (some : (c : Call) × (is : IsCall s c) × (named s c.target ≡ Some v)).
-      let most = formed.held.most (calls_by i f.doings) (c ∷ behind) some.0.target split in
-      let up = sum_raised s good some.0 some.1 v some.2 (calls_by i f.doings) are_calls in
-      let down = sum_withdrawn s good some.0 some.1 v some.2 (calls_by i f.doings) are_calls in
+      let most = formed.held.most (calls_by i f.call_records) (c ∷ behind) some.0.target split in
+      let up = sum_raised s good some.0 some.1 v some.2 (calls_by i f.call_records) are_calls in
+      let down = sum_withdrawn s good some.0 some.1 v some.2 (calls_by i f.call_records) are_calls in
       let sums = old.rejects i near v in omega arith)
-      (none_or_named s good v (calls_by i f.doings) are_calls)
+      (none_or_named s good v (calls_by i f.call_records) are_calls)
 
   -- a call that was made is counted
-  module _ (d : Doing) (m : Progress) (thread_is : d.thread ≡ i) (call_is : d.call ≡ c) (found : d.down ≡ f.down) (done : IsCalled s f i d m) where
+  module _ (d : CallRecord) (m : Progress) (thread_is : d.thread ≡ i) (call_is : d.call ≡ c) (found : d.down ≡ f.down) (done : IsCalled s f i d m) where
     abbrev k : Progress
-    k = with_doing s m d
+    k = with_call_record s m d
 
-    doings_are : k.doings ≡ f.doings ++ d ∷ []
-    doings_are = ap (λ l. l ++ d ∷ []) done.made.doings
+    call_records_are : k.call_records ≡ f.call_records ++ d ∷ []
+    call_records_are = ap (λ l. l ++ d ∷ []) done.made.call_records
 
-    done_own : done_by i k.doings ≡ done_by i f.doings ++ d ∷ []
-    done_own = ap (done_by i) doings_are ∙ (filter-append (λ (d : Doing). eqb d.thread i) f.doings (d ∷ []) ∙ ap (λ b. done_by i f.doings ++ cond b (d ∷ []) []) (eq-eqb d.thread i thread_is))
+    done_own : done_by i k.call_records ≡ done_by i f.call_records ++ d ∷ []
+    done_own = ap (done_by i) call_records_are ∙ (filter-append (λ (d : CallRecord). eqb d.thread i) f.call_records (d ∷ []) ∙ ap (λ b. done_by i f.call_records ++ cond b (d ∷ []) []) (eq-eqb d.thread i thread_is))
 
-    done_other : (j : ℕ) → j ≢ i → done_by j k.doings ≡ done_by j f.doings
-    done_other j off = ap (done_by j) doings_are ∙ (filter-append (λ (d : Doing). eqb d.thread j) f.doings (d ∷ [])
-        ∙ (ap (λ b. done_by j f.doings ++ cond b (d ∷ []) []) (ne_eqb d.thread j (λ e. off (sym e ∙ thread_is))) ∙ append-nil (done_by j f.doings)))
+    done_other : (j : ℕ) → j ≢ i → done_by j k.call_records ≡ done_by j f.call_records
+    done_other j off = ap (done_by j) call_records_are ∙ (filter-append (λ (d : CallRecord). eqb d.thread j) f.call_records (d ∷ [])
+        ∙ (ap (λ b. done_by j f.call_records ++ cond b (d ∷ []) []) (ne_eqb d.thread j (λ e. off (sym e ∙ thread_is))) ∙ append-nil (done_by j f.call_records)))
 
-    parts : (j : ℕ) → j < length s.threads → part_of k.history (pass_of s j) ≡ flat_map (call_entries s) (done_by j k.doings)
+    parts : (j : ℕ) → j < length s.threads → part_of k.history (pass_of s j) ≡ flat_map (call_entries s) (done_by j k.call_records)
     parts j l = dite (ℕ_discrete j i)
-        (λ is. subst (λ j. part_of k.history (pass_of s j) ≡ flat_map (call_entries s) (done_by j k.doings)) (sym is)
+        (λ is. subst (λ j. part_of k.history (pass_of s j) ≡ flat_map (call_entries s) (done_by j k.call_records)) (sym is)
         (done.made.own ∙ ((λ x. old.threads i near x ++ sym (append-nil (call_entries s d)) x)
-        ∙ (sym (flat_map-append (call_entries s) (done_by i f.doings) (d ∷ [])) ∙ ap (flat_map (call_entries s)) (sym done_own)))))
+        ∙ (sym (flat_map-append (call_entries s) (done_by i f.call_records) (d ∷ [])) ∙ ap (flat_map (call_entries s)) (sym done_own)))))
         (λ off. done.made.elsewhere (pass_of s j) (not_server s j) (other_threads s good j i l near off) ∙ (old.threads j l ∙ ap (flat_map (call_entries s)) (sym (done_other j off))))
 
     flags_now : (v : ℕ) → v < urb_count s → down_at v (part_of k.history HUB) ≡ k.down
@@ -185,28 +185,28 @@ module _ (s : Scene) (good : IsWellFormed s) (f : Progress) (i : ℕ) (c : Call)
         (λ hub.
         let before : down_at v (part_of f.history p) ≡ d.down = ap (λ q. down_at v (part_of f.history q)) hub ∙ (old.flags v l ∙ sym found) in
         ap (λ q. down_at v (part_of m.history q)) (sym hub) ∙ (ap (down_at v) done.made.own
-        ∙ (down_effect s (pass_of s d.thread) d (part_of f.history p) v l (deed_of s d.call) d.answer done.answered before ∙ ap (λ b. down_after b (deed_of s d.call) d.answer) (found ∙ sym done.made.down))))
+        ∙ (down_effect s (pass_of s d.thread) d (part_of f.history p) v l (host_call_of s d.call) d.answer done.answered before ∙ ap (λ b. down_after b (host_call_of s d.call) d.answer) (found ∙ sym done.made.down))))
         (λ off.
-        ap (down_at v) (done.made.elsewhere HUB (λ e. absurd (omega arith)) (λ e. off (sym e))) ∙ (old.flags v l ∙ (sym done.made.down ∙ sym (same_down m.down (deed_of s d.call) d.answer (ap (λ (c : Call). is_hubs (deed_of s c)) call_is ∙ not_hub (is_hubs (deed_of s c)) refl off)))))
+        ap (down_at v) (done.made.elsewhere HUB (λ e. absurd (omega arith)) (λ e. off (sym e))) ∙ (old.flags v l ∙ (sym done.made.down ∙ sym (same_down m.down (host_call_of s d.call) d.answer (ap (λ (c : Call). is_hubs (host_call_of s c)) call_is ∙ not_hub (is_hubs (host_call_of s c)) refl off)))))
       where
-        not_hub : (b : Bool) → is_hubs (deed_of s c) ≡ b → p ≢ HUB → is_hubs (deed_of s c) ≡ false
+        not_hub : (b : Bool) → is_hubs (host_call_of s c) ≡ b → p ≢ HUB → is_hubs (host_call_of s c) ≡ false
         not_hub true e off = absurd (off (only_hub e))
         not_hub false e off = e
 
-    rejects_now : (j : ℕ) → j < length s.threads → (v : ℕ) → rejects_at v (part_of k.history (pass_of s j)) + sum_withdrawn_by s v (calls_by j k.doings) ≡ sum_raised_by s v (calls_by j k.doings)
+    rejects_now : (j : ℕ) → j < length s.threads → (v : ℕ) → rejects_at v (part_of k.history (pass_of s j)) + sum_withdrawn_by s v (calls_by j k.call_records) ≡ sum_raised_by s v (calls_by j k.call_records)
     rejects_now j l v = dite (ℕ_discrete j i)
-        (λ is. subst (λ j. rejects_at v (part_of k.history (pass_of s j)) + sum_withdrawn_by s v (calls_by j k.doings) ≡ sum_raised_by s v (calls_by j k.doings)) (sym is)
-        (let calls : calls_by i k.doings ≡ calls_by i f.doings ++ c ∷ [] = ap (map (λ (d : Doing). d.call)) done_own ∙ (map-append (λ (d : Doing). d.call) (done_by i f.doings) (d ∷ []) ∙ ap (λ c. calls_by i f.doings ++ c ∷ []) call_is) in
-        let down : sum_withdrawn_by s v (calls_by i k.doings) ≡ sum_withdrawn_by s v (calls_by i f.doings) + withdraws v (deed_of s c) = ap (sum_withdrawn_by s v) calls ∙ sum_by_push (λ c. withdraws v (deed_of s c)) (calls_by i f.doings) c in
-        let up : sum_raised_by s v (calls_by i k.doings) ≡ sum_raised_by s v (calls_by i f.doings) + raises v (deed_of s c) = ap (sum_raised_by s v) calls ∙ sum_by_push (λ c. raises v (deed_of s c)) (calls_by i f.doings) c in
+        (λ is. subst (λ j. rejects_at v (part_of k.history (pass_of s j)) + sum_withdrawn_by s v (calls_by j k.call_records) ≡ sum_raised_by s v (calls_by j k.call_records)) (sym is)
+        (let calls : calls_by i k.call_records ≡ calls_by i f.call_records ++ c ∷ [] = ap (map (λ (d : CallRecord). d.call)) done_own ∙ (map-append (λ (d : CallRecord). d.call) (done_by i f.call_records) (d ∷ []) ∙ ap (λ c. calls_by i f.call_records ++ c ∷ []) call_is) in
+        let down : sum_withdrawn_by s v (calls_by i k.call_records) ≡ sum_withdrawn_by s v (calls_by i f.call_records) + withdraws v (host_call_of s c) = ap (sum_withdrawn_by s v) calls ∙ sum_by_push (λ c. withdraws v (host_call_of s c)) (calls_by i f.call_records) c in
+        let up : sum_raised_by s v (calls_by i k.call_records) ≡ sum_raised_by s v (calls_by i f.call_records) + raises v (host_call_of s c) = ap (sum_raised_by s v) calls ∙ sum_by_push (λ c. raises v (host_call_of s c)) (calls_by i f.call_records) c in
         let held = ap (rejects_at v) done.made.own in
-        let effect = rejects_effect s (pass_of s d.thread) d (part_of f.history p) v (deed_of s d.call) d.answer done.answered (λ e. is_backed v (ap (λ c. withdraws v (deed_of s c)) (sym call_is) ∙ e)) in
-        let w : withdraws v (deed_of s c) ≡ withdraws v (deed_of s d.call) = ap (λ c. withdraws v (deed_of s c)) (sym call_is) in
-        let r : raises v (deed_of s c) ≡ raises v (deed_of s d.call) = ap (λ c. raises v (deed_of s c)) (sym call_is) in
+        let effect = rejects_effect s (pass_of s d.thread) d (part_of f.history p) v (host_call_of s d.call) d.answer done.answered (λ e. is_backed v (ap (λ c. withdraws v (host_call_of s c)) (sym call_is) ∙ e)) in
+        let w : withdraws v (host_call_of s c) ≡ withdraws v (host_call_of s d.call) = ap (λ c. withdraws v (host_call_of s c)) (sym call_is) in
+        let r : raises v (host_call_of s c) ≡ raises v (host_call_of s d.call) = ap (λ c. raises v (host_call_of s c)) (sym call_is) in
         let sums = old.rejects i near v in omega arith))
         (λ off.
         let part = ap (rejects_at v) (done.made.elsewhere (pass_of s j) (not_server s j) (other_threads s good j i l near off)) in
-        let calls : calls_by j k.doings ≡ calls_by j f.doings = ap (map (λ (d : Doing). d.call)) (done_other j off) in
+        let calls : calls_by j k.call_records ≡ calls_by j f.call_records = ap (map (λ (d : CallRecord). d.call)) (done_other j off) in
         let down = ap (sum_withdrawn_by s v) calls in let up = ap (sum_raised_by s v) calls in let sums = old.rejects j l v in omega arith)
 
     pub counted : Goes s k
@@ -215,9 +215,9 @@ module _ (s : Scene) (good : IsWellFormed s) (f : Progress) (i : ℕ) (c : Call)
       threads = parts;
       main = done.made.elsewhere (main_pass s) (main_not_server s) (λ e. not_main s i near (sym e)) ∙ old.main;
       others = λ q off main none. done.made.elsewhere q off (none i near) ∙ old.others q off main none;
-      told = subst (All (IsMade s)) (sym doings_are) (All-push (IsMade s) f.doings d old.told record { thread = subst (λ j. j < length s.threads) (sym thread_is) near; answered = done.answered });
-      downs = subst (AreDowns s false) (sym doings_are) (AreDowns-push s false f.doings d old.downs (found ∙ sym old.down));
-      down = ap (down_by s false) doings_are ∙ (down_by-push s false f.doings d ∙ ap (λ b. down_after b (deed_of s d.call) d.answer) (old.down ∙ sym done.made.down));
+      told = subst (All (IsMade s)) (sym call_records_are) (All-push (IsMade s) f.call_records d old.told record { thread = subst (λ j. j < length s.threads) (sym thread_is) near; answered = done.answered });
+      downs = subst (AreDowns s false) (sym call_records_are) (AreDowns-push s false f.call_records d old.downs (found ∙ sym old.down));
+      down = ap (down_by s false) call_records_are ∙ (down_by-push s false f.call_records d ∙ ap (λ b. down_after b (host_call_of s d.call) d.answer) (old.down ∙ sym done.made.down));
       flags = flags_now;
       rejects = rejects_now;
     }
@@ -237,55 +237,55 @@ module _ (s : Scene) (good : IsWellFormed s) (f : Progress) (i : ℕ) (c : Call)
         }
 
   -- each call keeps what holds between calls
-  pub makes_go : (d : Doing) (m : Progress) → Makes s f i c d m → Goes s (with_doing s m d)
-  makes_go _ _ (at_once answer e) = counted (doing f i c answer [] []) _ refl refl refl (now_called s good f i c can_call answer e)
+  pub makes_go : (d : CallRecord) (m : Progress) → Makes s f i c d m → Goes s (with_call_record s m d)
+  makes_go _ _ (at_once answer e) = counted (call_record f i c answer [] []) _ refl refl refl (now_called s good f i c can_call answer e)
   makes_go _ e (served m _ is gave idle) =
       let begun = made_none s f p old.serves in
       let wake = made_turned s f f (woken f) p [] (not_server s i) begun (woken_serves s f old.serves) (woken_turned f) in
       let gone = made_turned s f (woken f) m p [] (not_server s i) wake (gives_back_serve s good (woken f) m gave wake.serves) (gives_back_turned s (woken f) m gave) in
       let last = made_turned s f m e p [] (not_server s i) gone (idle_serves s m e idle gone.serves) (idle_turned s m e idle) in
-      counted (doing f i c told.Nothing [] []) e refl refl refl record {
-        made = subst (λ dd. IsMadeBy s f p (deed_entries s p c dd told.Nothing [] [] f.down) e) (sym is) last;
-        answered = subst (λ dd. IsAnswered s (doing f i c told.Nothing [] []) dd told.Nothing) (sym is) refl;
+      counted (call_record f i c told.Nothing [] []) e refl refl refl record {
+        made = subst (λ dd. IsMadeBy s f p (host_call_entries s p c dd told.Nothing [] [] f.down) e) (sym is) last;
+        answered = subst (λ dd. IsAnswered s (call_record f i c told.Nothing [] []) dd told.Nothing) (sym is) refl;
       }
   makes_go _ _ (killed u m is waits) =
       let rest : Option ℕ = (state_of m.history u).rest in
       let mark : Code = unlinking (state_of f.history u) in
-      let d : Doing = doing f i c (told.Buffer rest) (mark ∷ []) [] in
+      let d : CallRecord = call_record f i c (told.Buffer rest) (mark ∷ []) [] in
       let k : Progress = adds m (claim_entries p u rest ++ unblock_entries p u) in
       counted d k refl refl refl record {
-        made = subst (λ dd. IsMadeBy s f p (deed_entries s p c dd (told.Buffer rest) (mark ∷ []) [] f.down) k) (sym is) (kill_made s p u (is_pass s i near) good (not_server s i) f m old.serves waits);
+        made = subst (λ dd. IsMadeBy s f p (host_call_entries s p c dd (told.Buffer rest) (mark ∷ []) [] f.down) k) (sym is) (kill_made s p u (is_pass s i near) good (not_server s i) f m old.serves waits);
         answered = subst (λ dd. IsAnswered s d dd (told.Buffer rest)) (sym is) refl;
       }
   makes_go _ _ (poisoned u m is waits) =
       let rest : Option ℕ = (state_of m.history u).rest in
       let mark : Code = unlinking (state_of f.history u) in
-      let d : Doing = doing f i c (told.Buffer rest) (mark ∷ []) [] in
+      let d : CallRecord = call_record f i c (told.Buffer rest) (mark ∷ []) [] in
       let k : Progress = adds m (claim_entries p u rest) in
       counted d k refl refl refl record {
-        made = subst (λ dd. IsMadeBy s f p (deed_entries s p c dd (told.Buffer rest) (mark ∷ []) [] f.down) k) (sym is) (poison_made s p u (is_pass s i near) good (not_server s i) f m old.serves waits);
+        made = subst (λ dd. IsMadeBy s f p (host_call_entries s p c dd (told.Buffer rest) (mark ∷ []) [] f.down) k) (sym is) (poison_made s p u (is_pass s i near) good (not_server s i) f m old.serves waits);
         answered = subst (λ dd. IsAnswered s d dd (told.Buffer rest)) (sym is) refl;
       }
   makes_go _ m (shut_down rests _ is up claims) = counted _ m refl refl refl (down_called s good f i c can_call is up rests m claims)
 
-claims_doings : (s : Scene) (p : ℕ) (f : Progress) (us : List ℕ) (rests : List (Option ℕ)) (m : Progress) → ClaimsEach s p f us rests m → m.doings ≡ f.doings
-claims_doings s p f _ _ _ none = refl
-claims_doings s p f _ _ _ (one us rests u m k before waits) = (wait_turned s u m k waits).doings ∙ claims_doings s p f us rests m before
+claims_call_records : (s : Scene) (p : ℕ) (f : Progress) (us : List ℕ) (rests : List (Option ℕ)) (m : Progress) → ClaimsEach s p f us rests m → m.call_records ≡ f.call_records
+claims_call_records s p f _ _ _ none = refl
+claims_call_records s p f _ _ _ (one us rests u m k before waits) = (wait_turned s u m k waits).call_records ∙ claims_call_records s p f us rests m before
 
 -- a call adds itself to the calls made
-pub makes_doings : (s : Scene) (f : Progress) (i : ℕ) (c : Call) (d : Doing) (m : Progress) → Makes s f i c d m → (placed d ≡ (i, c)) × (m.doings ≡ f.doings)
-makes_doings s f i c _ _ (at_once answer e) = (refl, refl)
-makes_doings s f i c _ _ (served m e is gave idle) = (refl, (idle_turned s m e idle).doings ∙ (gives_back_turned s (woken f) m gave).doings)
-makes_doings s f i c _ _ (killed u m is waits) = (refl, (wait_turned s u (killing (pass_of s i) u f) m waits).doings)
-makes_doings s f i c _ _ (poisoned u m is waits) = (refl, (wait_turned s u (killing (pass_of s i) u f) m waits).doings)
-makes_doings s f i c _ _ (shut_down rests m is up claims) = (refl, claims_doings s (pass_of s i) (shutting s (pass_of s i) f) (urbs_of s) rests m claims)
+pub makes_call_records : (s : Scene) (f : Progress) (i : ℕ) (c : Call) (d : CallRecord) (m : Progress) → Makes s f i c d m → (placed d ≡ (i, c)) × (m.call_records ≡ f.call_records)
+makes_call_records s f i c _ _ (at_once answer e) = (refl, refl)
+makes_call_records s f i c _ _ (served m e is gave idle) = (refl, (idle_turned s m e idle).call_records ∙ (gives_back_turned s (woken f) m gave).call_records)
+makes_call_records s f i c _ _ (killed u m is waits) = (refl, (wait_turned s u (killing (pass_of s i) u f) m waits).call_records)
+makes_call_records s f i c _ _ (poisoned u m is waits) = (refl, (wait_turned s u (killing (pass_of s i) u f) m waits).call_records)
+makes_call_records s f i c _ _ (shut_down rests m is up claims) = (refl, claims_call_records s (pass_of s i) (shutting s (pass_of s i) f) (urbs_of s) rests m claims)
 
 -- the run through calls that begin those of the scene
-pub line_goes : (s : Scene) → IsWellFormed s → (f : Progress) → IsLine s f → (rest : List (ℕ × Call)) → map placed f.doings ++ rest ≡ calls_of s → Goes s f
+pub line_goes : (s : Scene) → IsWellFormed s → (f : Progress) → IsLine s f → (rest : List (ℕ × Call)) → map placed f.call_records ++ rest ≡ calls_of s → Goes s f
 line_goes s good _ start rest all = goes_begun s good
 line_goes s good _ (call f m i c d line near makes) rest all =
-    let same = makes_doings s f i c d m makes in
-    let before : map placed f.doings ++ (i, c) ∷ rest ≡ calls_of s
-    = sym (append_assoc (map placed f.doings) ((i, c) ∷ []) rest)
-    ∙ ((λ x. (map placed (sym same.1 x) ++ sym same.0 x ∷ []) ++ rest) ∙ (ap (λ l. l ++ rest) (sym (map-append placed m.doings (d ∷ []))) ∙ all)) in
+    let same = makes_call_records s f i c d m makes in
+    let before : map placed f.call_records ++ (i, c) ∷ rest ≡ calls_of s
+    = sym (append_assoc (map placed f.call_records) ((i, c) ∷ []) rest)
+    ∙ ((λ x. (map placed (sym same.1 x) ++ sym same.0 x ∷ []) ++ rest) ∙ (ap (λ l. l ++ rest) (sym (map-append placed m.call_records (d ∷ []))) ∙ all)) in
     makes_go s good f i c (line_goes s good f line ((i, c) ∷ rest) before) near (rest, before) d m makes

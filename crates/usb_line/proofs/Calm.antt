@@ -26,7 +26,7 @@ use Rattle.usb_machine.proofs.Places.{placed}
 use Rattle.usb_scene.specs.declared.scene.Scene.{Scene}
 use Rattle.usb_line.specs.declared.made.Outcome.{Outcome}
 use Rattle.usb_line.specs.declared.made.Outcome.TheVariants as outcome
-use Rattle.usb_line.specs.Prepared.{machine_of, Asking, asking_of}
+use Rattle.usb_line.specs.Prepared.{machine_of, Question, question_at}
 use Rattle.usb_line.specs.Back.{CanPoseAny}
 use Rattle.usb_line.specs.Run.{Giveback, moved_in, resent, rest_entry, asked_entries, handled_by, given_entries, giveback_entries}
 use Rattle.usb_line.specs.Line.{takes, takes_below}
@@ -121,9 +121,9 @@ module _ (s : Scene) (h : List Entry) where
   linked_takes n = linked_by SERVER h (takes_below s h n) (below_pass s h n) (below_owe s h n)
 
   module _ (r : Giveback) where
-    pub calm_giveback : CanPoseAny s r.urb (asking_of s r.urb) → IsCalm h → IsCalm (h ++ giveback_entries s r)
+    pub calm_giveback : CanPoseAny s r.urb (question_at s r.urb) → IsCalm h → IsCalm (h ++ giveback_entries s r)
     calm_giveback pose calm u = dite (ℕ_discrete u r.urb)
-        (λ is. subst (λ u. IsAtRest (state_of (h ++ giveback_entries s r) u)) (sym is) (subst IsAtRest (sym (giveback_state s h r (apart_any s r.urb (asking_of s r.urb) pose))) (go r.outcome)))
+        (λ is. subst (λ u. IsAtRest (state_of (h ++ giveback_entries s r) u)) (sym is) (subst IsAtRest (sym (giveback_state s h r (apart_any s r.urb (question_at s r.urb) pose))) (go r.outcome)))
         (λ off. calm_else u off r.outcome refl)
       where
         go : (o : Outcome) → IsAtRest (handled_state o (moved_in s r).number (record (state_of h r.urb) { queued = false; mark = Clear }))
@@ -133,11 +133,11 @@ module _ (s : Scene) (h : List Entry) where
         go (outcome.Asked c) = record { handlers = (calm r.urb).handlers; mark = refl }
 
         calm_else : (u : ℕ) → u ≢ r.urb → (o : Outcome) → r.outcome ≡ o → IsAtRest (state_of (h ++ giveback_entries s r) u)
-        calm_else u off outcome.Rest did = subst IsAtRest (sym (giveback_other s h r u off (subst (λ o. IsApart u (posed_by (asking_of s r.urb) o)) (sym did) tt))) (calm u)
-        calm_else u off (outcome.Again c) did = subst IsAtRest (sym (giveback_other s h r u off (subst (λ o. IsApart u (posed_by (asking_of s r.urb) o)) (sym did) tt))) (calm u)
+        calm_else u off outcome.Rest did = subst IsAtRest (sym (giveback_other s h r u off (subst (λ o. IsApart u (posed_by (question_at s r.urb) o)) (sym did) tt))) (calm u)
+        calm_else u off (outcome.Again c) did = subst IsAtRest (sym (giveback_other s h r u off (subst (λ o. IsApart u (posed_by (question_at s r.urb) o)) (sym did) tt))) (calm u)
         calm_else u off (outcome.Asked c) did = subst IsAtRest (sym (ap (λ (l : List Entry). state_of l u) (whole_asked s h r c did)
-            ∙ other_state r.urb (resting s h r ++ asked_entries s (asking_of s r.urb) c) (plain_entry SERVER (End record { 0 = r.urb }) ∷ []) (tt, refl, tt) u off))
-            (asked_each s (λ xs. IsAtRest (state_of (resting s h r ++ xs) u)) (asking_of s r.urb) c (subst (λ (l : List Entry). IsAtRest (state_of l u)) (sym (append-nil (resting s h r))) before)
+            ∙ other_state r.urb (resting s h r ++ asked_entries s (question_at s r.urb) c) (plain_entry SERVER (End record { 0 = r.urb }) ∷ []) (tt, refl, tt) u off))
+            (asked_each s (λ xs. IsAtRest (state_of (resting s h r ++ xs) u)) (question_at s r.urb) c (subst (λ (l : List Entry). IsAtRest (state_of l u)) (sym (append-nil (resting s h r))) before)
             (λ a is none. asked a c (dite (ℕ_discrete u a.urb) inl inr)))
           where
             before : IsAtRest (state_of (resting s h r) u)
@@ -148,7 +148,7 @@ module _ (s : Scene) (h : List Entry) where
             queued true t is = record { handlers = is.handlers; mark = refl }
             queued false t is = is
 
-            asked : (a : Asking) (c : Code) → (u ≡ a.urb) ⊎ (u ≢ a.urb) → IsAtRest (state_of (resting s h r ++ submit_entries SERVER a.urb a.transfer c) u)
+            asked : (a : Question) (c : Code) → (u ≡ a.urb) ⊎ (u ≢ a.urb) → IsAtRest (state_of (resting s h r ++ submit_entries SERVER a.urb a.transfer c) u)
             asked a c (inl same) = subst (λ v. IsAtRest (state_of (resting s h r ++ submit_entries SERVER a.urb a.transfer c) v)) (sym same)
                 (subst IsAtRest (sym (submit_state SERVER a.urb a.transfer (resting s h r) c)) (queued (is_zero c) (state_of (resting s h r) a.urb) (subst (λ v. IsAtRest (state_of (resting s h r) v)) same before)))
             asked a c (inr apart) = subst IsAtRest (sym (submit_other SERVER a.urb a.transfer (resting s h r) c u apart)) before
@@ -164,20 +164,20 @@ module _ (s : Scene) (h : List Entry) where
         go true = refl
         go false = refl
 
-    handled_owe : (m : List Entry) (u : ℕ) → owes m u ≡ false → (o : Outcome) → owes (m ++ handled_by s r.urb (moved_in s r) (resent s r) (asking_of s r.urb) o) u ≡ false
+    handled_owe : (m : List Entry) (u : ℕ) → owes m u ≡ false → (o : Outcome) → owes (m ++ handled_by s r.urb (moved_in s r) (resent s r) (question_at s r.urb) o) u ≡ false
     handled_owe m u none outcome.Rest = none_owed m (rest_entry r.urb (moved_in s r) ∷ []) u none refl
     handled_owe m u none (outcome.Again Zero) = none_owed m (submit_entries SERVER r.urb (resent s r) Zero ++ []) u none (go (eqb r.urb u) refl)
       where
         go : (w : Bool) → eqb r.urb u ≡ w → fold (λ b x. owes_after u b x.event x.answer) false (submit_entries SERVER r.urb (resent s r) Zero ++ []) ≡ false
         go true is = ap (λ b. cond b false (cond (b && true) true false)) is
         go false is = ap (λ b. cond b false (cond (b && true) true false)) is
-    handled_owe m u none (outcome.Again (Fault e)) = none_owed m (handled_by s r.urb (moved_in s r) (resent s r) (asking_of s r.urb) (outcome.Again (Fault e))) u none (go (eqb r.urb u) refl)
+    handled_owe m u none (outcome.Again (Fault e)) = none_owed m (handled_by s r.urb (moved_in s r) (resent s r) (question_at s r.urb) (outcome.Again (Fault e))) u none (go (eqb r.urb u) refl)
       where
-        go : (w : Bool) → eqb r.urb u ≡ w → fold (λ b x. owes_after u b x.event x.answer) false (handled_by s r.urb (moved_in s r) (resent s r) (asking_of s r.urb) (outcome.Again (Fault e))) ≡ false
+        go : (w : Bool) → eqb r.urb u ≡ w → fold (λ b x. owes_after u b x.event x.answer) false (handled_by s r.urb (moved_in s r) (resent s r) (question_at s r.urb) (outcome.Again (Fault e))) ≡ false
         go true is = ap (λ b. cond (b && false) true false) is
         go false is = ap (λ b. cond (b && false) true false) is
-    handled_owe m u none (outcome.Asked c) = ap (λ (l : List Entry). owes l u) (sym (append_assoc m (rest_entry r.urb (moved_in s r) ∷ []) (asked_entries s (asking_of s r.urb) c)))
-        ∙ asked_each s (λ xs. owes ((m ++ rest_entry r.urb (moved_in s r) ∷ []) ++ xs) u ≡ false) (asking_of s r.urb) c
+    handled_owe m u none (outcome.Asked c) = ap (λ (l : List Entry). owes l u) (sym (append_assoc m (rest_entry r.urb (moved_in s r) ∷ []) (asked_entries s (question_at s r.urb) c)))
+        ∙ asked_each s (λ xs. owes ((m ++ rest_entry r.urb (moved_in s r) ∷ []) ++ xs) u ≡ false) (question_at s r.urb) c
         (ap (λ (l : List Entry). owes l u) (append-nil (m ++ rest_entry r.urb (moved_in s r) ∷ [])) ∙ rested)
         (λ a is no_. submit_owes_none SERVER a.urb a.transfer (m ++ rest_entry r.urb (moved_in s r) ∷ []) u c rested)
       where

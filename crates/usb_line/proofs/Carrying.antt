@@ -27,8 +27,8 @@ use Rattle.usb_machine.proofs.Marks.{accepts_open}
 use Rattle.usb_scene.specs.declared.scene.Scene.{Scene}
 use Rattle.usb_line.specs.declared.made.Outcome.{Outcome}
 use Rattle.usb_line.specs.declared.made.Outcome.TheVariants as outcome
-use Rattle.usb_line.specs.Prepared.{machine_of, asking_of}
-use Rattle.usb_line.specs.Run.{Doing, Giveback, IsRun, is_aside, moved_in, resent, times_back, handled_by, handler_entries, given_entries, giveback_entries, episode_of}
+use Rattle.usb_line.specs.Prepared.{machine_of, question_at}
+use Rattle.usb_line.specs.Run.{CallRecord, Giveback, IsRun, is_aside, moved_in, resent, times_back, handled_by, handler_entries, given_entries, giveback_entries, episode_of}
 use Rattle.usb_line.proofs.Givebacks.{asked_each}
 use Rattle.usb_line.proofs.Episodes.{IsNoGive, HaveNoGive}
 use Rattle.usb_line.proofs.FinishedFlags.{served, is_served, single, served-snoc}
@@ -55,13 +55,13 @@ pub carry-append : (u : ℕ) (t : Option Transfer) (h xs : List Entry) → carry
 carry-append u t h xs = fold-append (λ (t : Option Transfer) (x : Entry). carried_after u t x.pass x.event x.answer x.carried) t h xs
 
 -- and for each Give, the one that the server had submitted
-abbrev given_of : List Entry → Event → List (Option Transfer)
-given_of before (Give v) = carried_of before v.0 ∷ []
-given_of before _ = []
+abbrev giveback_row : List Entry → Event → List (Option Transfer)
+giveback_row before (Give v) = carried_of before v.0 ∷ []
+giveback_row before _ = []
 
 abbrev givens_after : List Entry → List Entry → List (Option Transfer)
 givens_after before [] = []
-givens_after before (x ∷ xs) = given_of before x.event ++ givens_after (before ++ x ∷ []) xs
+givens_after before (x ∷ xs) = giveback_row before x.event ++ givens_after (before ++ x ∷ []) xs
 
 abbrev givens_of : List Entry → List (Option Transfer)
 givens_of h = givens_after [] h
@@ -69,9 +69,9 @@ givens_of h = givens_after [] h
 givens-append : (b h xs : List Entry) → givens_after b (h ++ xs) ≡ givens_after b h ++ givens_after (b ++ h) xs
 givens-append b [] xs = ap (λ l. givens_after l xs) (sym (append-nil b))
 givens-append b (x ∷ h) xs =
-    ap (λ l. given_of b x.event ++ l) (givens-append (b ++ x ∷ []) h xs)
-    ∙ (sym (append_assoc (given_of b x.event) (givens_after (b ++ x ∷ []) h) (givens_after ((b ++ x ∷ []) ++ h) xs))
-    ∙ ap (λ l. (given_of b x.event ++ givens_after (b ++ x ∷ []) h) ++ givens_after l xs) (append_assoc b (x ∷ []) h))
+    ap (λ l. giveback_row b x.event ++ l) (givens-append (b ++ x ∷ []) h xs)
+    ∙ (sym (append_assoc (giveback_row b x.event) (givens_after (b ++ x ∷ []) h) (givens_after ((b ++ x ∷ []) ++ h) xs))
+    ∙ ap (λ l. (giveback_row b x.event ++ givens_after (b ++ x ∷ []) h) ++ givens_after l xs) (append_assoc b (x ∷ []) h))
 
 -- as long as the episodes
 same_count : (b h : List Entry) → length (givens_after b h) ≡ length (episodes_after b h)
@@ -79,7 +79,7 @@ same_count b [] = refl
 same_count b (x ∷ h) = go x.event (same_count (b ++ x ∷ []) h)
   where
     go : (e : Event) → length (givens_after (b ++ x ∷ []) h) ≡ length (episodes_after (b ++ x ∷ []) h)
-        → length (given_of b e ++ givens_after (b ++ x ∷ []) h) ≡ length (ended_by b e x.answer ++ episodes_after (b ++ x ∷ []) h)
+        → length (giveback_row b e ++ givens_after (b ++ x ∷ []) h) ≡ length (ended_by b e x.answer ++ episodes_after (b ++ x ∷ []) h)
     go (Give v) is = ap suc is
     go _ is = is
 
@@ -149,7 +149,7 @@ is_carried g u _ (longer h x legal f) =
 -- an entry that is not the server's changes none of this
 pub record Skips (x : Entry) (e : Event) : Type 0 where
   pub carried : (u : ℕ) (t : Option Transfer) → carried_after u t x.pass e x.answer x.carried ≡ t
-  pub given : (m : List Entry) → given_of m e ≡ []
+  pub given : (m : List Entry) → giveback_row m e ≡ []
 
 unserved : (g : Machine) (h : List Entry) (x : Entry) (e : Event) → x.event ≡ e → May g h x.pass e → is_served x ≡ false → Skips x e
 unserved g h x (Submit v n) is may off = record { carried = λ u t. go u t (eqb x.pass SERVER) other; given = λ m. refl }
@@ -177,13 +177,13 @@ pub record AreServed (h : List Entry) : Type 0 where
   pub givens : givens_of h ≡ givens_of (served h)
 
 served_step : (g : Machine) (h : List Entry) (x : Entry) → May g h x.pass x.event → AreServed h → (b : Bool) → is_served x ≡ b
-    → ((u : ℕ) → carried_after u (carried_of h u) x.pass x.event x.answer x.carried ≡ carried_of (served h ++ single b x) u) × (givens_of h ++ (given_of h x.event ++ []) ≡ givens_of (served h ++ single b x))
+    → ((u : ℕ) → carried_after u (carried_of h u) x.pass x.event x.answer x.carried ≡ carried_of (served h ++ single b x) u) × (givens_of h ++ (giveback_row h x.event ++ []) ≡ givens_of (served h ++ single b x))
 served_step g h x may old true is = (
   λ u. ap (λ t. carried_after u t x.pass x.event x.answer x.carried) (old.carried u) ∙ sym (carry-append u None (served h) (x ∷ [])),
   (λ i. old.givens i ++ (same x.event i ++ [])) ∙ sym (givens-append [] (served h) (x ∷ [])),
 )
   where
-    same : (e : Event) → given_of h e ≡ given_of (served h) e
+    same : (e : Event) → giveback_row h e ≡ giveback_row (served h) e
     same (Give v) = ap (λ b. b ∷ []) (old.carried v.0)
     same _ = refl
 served_step g h x may old false is =
@@ -205,7 +205,7 @@ no_given : (m xs : List Entry) → HaveNoGive xs → givens_after m xs ≡ []
 no_given m [] is = refl
 no_given m (x ∷ xs) is = ap (λ l. l ++ givens_after (m ++ x ∷ []) xs) (go x.event is.0) ∙ no_given (m ++ x ∷ []) xs is.1
   where
-    go : (e : Event) → IsNoGive e → given_of m e ≡ []
+    go : (e : Event) → IsNoGive e → giveback_row m e ≡ []
     go (Give v) free = absurd free
     go _ free = refl
 
@@ -248,13 +248,13 @@ put t x false f is so = absurd (true≢false (sym is))
 
 module _ (s : Scene) (r : Giveback) where
   handler_no_give : HaveNoGive (handler_entries s r)
-  handler_no_give = HaveNoGive-append (handled_by s r.urb (moved_in s r) (resent s r) (asking_of s r.urb) r.outcome) (plain_entry SERVER (End record { 0 = r.urb }) ∷ []) (go r.outcome) (tt, tt)
+  handler_no_give = HaveNoGive-append (handled_by s r.urb (moved_in s r) (resent s r) (question_at s r.urb) r.outcome) (plain_entry SERVER (End record { 0 = r.urb }) ∷ []) (go r.outcome) (tt, tt)
     where
-      go : (o : Outcome) → HaveNoGive (handled_by s r.urb (moved_in s r) (resent s r) (asking_of s r.urb) o)
+      go : (o : Outcome) → HaveNoGive (handled_by s r.urb (moved_in s r) (resent s r) (question_at s r.urb) o)
       go outcome.Rest = (tt, tt)
       go (outcome.Again Zero) = (tt, (tt, tt))
       go (outcome.Again (Fault e)) = (tt, (tt, tt))
-      go (outcome.Asked c) = (tt, asked_each s HaveNoGive (asking_of s r.urb) c tt (λ a is none. submit_no_give SERVER a.urb a.transfer c))
+      go (outcome.Asked c) = (tt, asked_each s HaveNoGive (question_at s r.urb) c tt (λ a is none. submit_no_give SERVER a.urb a.transfer c))
 
   abbrev finish : Entry
   finish = entry SERVER (Finish record { 0 = r.urb } r.status) (Truth true) None
@@ -278,7 +278,7 @@ module _ (s : Scene) (r : Giveback) where
 
   -- a handler that submits again leaves the transfer that it submits
   pub leaves : r.outcome ≡ outcome.Again Zero → (t : Option Transfer) → carry r.urb t (giveback_entries s r) ≡ Some (resent s r)
-  leaves did t = ap (λ o. carry r.urb t (given_entries r.urb r.status r.finished ++ (handled_by s r.urb (moved_in s r) (resent s r) (asking_of s r.urb) o ++ plain_entry SERVER (End record { 0 = r.urb }) ∷ []))) did ∙ go r.finished
+  leaves did t = ap (λ o. carry r.urb t (given_entries r.urb r.status r.finished ++ (handled_by s r.urb (moved_in s r) (resent s r) (question_at s r.urb) o ++ plain_entry SERVER (End record { 0 = r.urb }) ∷ []))) did ∙ go r.finished
     where
       go : (b : Bool) → carry r.urb t (given_entries r.urb r.status b ++ (submit_entries SERVER r.urb (resent s r) Zero ++ plain_entry SERVER (End record { 0 = r.urb }) ∷ [])) ≡ Some (resent s r)
       go true = put t (resent s r) (eqb r.urb r.urb) (eqb SERVER SERVER) (eq-eqb r.urb r.urb refl) (eq-eqb SERVER SERVER refl)
@@ -319,19 +319,19 @@ nth_middle [] y ys = refl
 nth_middle (x ∷ xs) y ys = nth_middle xs y ys
 
 -- what the server had submitted before a giveback is what was sent
-module _ (s : Scene) (h : List Entry) (doings : List Doing) (rounds : List Giveback) (run : IsRun s h doings rounds)
+module _ (s : Scene) (h : List Entry) (call_records : List CallRecord) (rounds : List Giveback) (run : IsRun s h call_records rounds)
     (front : List Giveback) (next : Giveback) (behind : List Giveback) (split : rounds ≡ front ++ next ∷ behind) where
   pub stands : slice_get rounds (length front) ≡ Some next
   stands = ap (λ l. slice_get l (length front)) split ∙ nth_middle front next behind
 
   abbrev at : IsGiveAt [] h (length front) (episode_of next)
-  at = give_of s h doings rounds run (length front) next stands
+  at = give_of s h call_records rounds run (length front) next stands
 
   -- what the server had submitted, by the history
   by_history : slice_get (givens_of h) (length front) ≡ Some (carried_of at.pre next.urb)
   by_history =
       ap (λ l. slice_get (givens_of l) (length front)) at.parts
-      ∙ (ap (λ l. slice_get l (length front)) (givens-append [] at.pre (at.give ∷ at.post) ∙ ap (λ e. givens_of at.pre ++ (given_of at.pre e ++ givens_after (at.pre ++ at.give ∷ []) at.post)) at.gives)
+      ∙ (ap (λ l. slice_get l (length front)) (givens-append [] at.pre (at.give ∷ at.post) ∙ ap (λ e. givens_of at.pre ++ (giveback_row at.pre e ++ givens_after (at.pre ++ at.give ∷ []) at.post)) at.gives)
       ∙ (ap (slice_get (givens_of at.pre ++ carried_of at.pre next.urb ∷ givens_after (at.pre ++ at.give ∷ []) at.post)) (sym (same_count [] at.pre ∙ at.count))
       ∙ nth_middle (givens_of at.pre) (carried_of at.pre next.urb) (givens_after (at.pre ++ at.give ∷ []) at.post)))
 
@@ -345,17 +345,17 @@ module _ (s : Scene) (h : List Entry) (doings : List Doing) (rounds : List Giveb
 
   pub sent_as : (t : Transfer) → carried_of (flat_map (giveback_entries s) front) next.urb ≡ Some t → next.sent ≡ t
   sent_as t is =
-      let sent = (is_carried (machine_of s) next.urb at.pre (legal_at s h doings rounds run (length front) next stands)).sent t (by_both ∙ is) in
+      let sent = (is_carried (machine_of s) next.urb at.pre (legal_at s h call_records rounds run (length front) next stands)).sent t (by_both ∙ is) in
       let same : Some next.sent ≡ Some t = at.sent ∙ sent in cc
 
 -- what the server submitted and did not give back, after all givebacks: nothing
-pub none_left : (s : Scene) (h : List Entry) (doings : List Doing) (rounds : List Giveback) → IsRun s h doings rounds → (u : ℕ) → carried_of (flat_map (giveback_entries s) rounds) u ≡ None
-none_left s h doings rounds run u =
+pub none_left : (s : Scene) (h : List Entry) (call_records : List CallRecord) (rounds : List Giveback) → IsRun s h call_records rounds → (u : ℕ) → carried_of (flat_map (giveback_entries s) rounds) u ≡ None
+none_left s h call_records rounds run u =
     ap (λ l. carried_of l u) (sym run.server)
     ∙ (sym ((are_served (machine_of s) h run.legal).carried u)
-    ∙ (is_carried (machine_of s) u h run.legal).none (none_queued s h doings rounds run u))
+    ∙ (is_carried (machine_of s) u h run.legal).none (none_queued s h call_records rounds run u))
 
-module _ (s : Scene) (h : List Entry) (doings : List Doing) (rounds : List Giveback) (run : IsRun s h doings rounds)
+module _ (s : Scene) (h : List Entry) (call_records : List CallRecord) (rounds : List Giveback) (run : IsRun s h call_records rounds)
     (before : List Giveback) (r : Giveback) (middle : List Giveback) (next : Giveback) (behind : List Giveback)
     (parts : rounds ≡ before ++ r ∷ (middle ++ next ∷ behind)) (did : r.outcome ≡ outcome.Again Zero) (same : next.urb ≡ r.urb) (none : times_back r.urb middle ≡ 0) where
   abbrev front : List Giveback
@@ -369,5 +369,5 @@ module _ (s : Scene) (h : List Entry) (doings : List Doing) (rounds : List Giveb
       ∙ none_back s r.urb (resent s r) middle none)))
 
   pub sent_on : next.sent ≡ resent s r
-  sent_on = sent_as s h doings rounds run front next behind (parts ∙ sym (append_assoc before (r ∷ middle) (next ∷ behind))) (resent s r)
+  sent_on = sent_as s h call_records rounds run front next behind (parts ∙ sym (append_assoc before (r ∷ middle) (next ∷ behind))) (resent s r)
       (ap (carried_of (flat_map (giveback_entries s) front)) same ∙ left)

@@ -19,18 +19,18 @@ use Rattle.usb_scene.specs.declared.scene.Scene.{Scene}
 use Rattle.usb_scene.specs.WellFormed.{IsWellFormed}
 use Rattle.usb_scene.specs.declared.scene.Call.{Call}
 use Rattle.usb_prepare.specs.Layout.{urb_count}
-use Rattle.usb_line.specs.declared.made.Deed.TheVariants as deed
+use Rattle.usb_line.specs.declared.made.HostCall.TheVariants as host_call
 use Rattle.usb_line.specs.declared.made.CallAnswer.TheVariants as told
-use Rattle.usb_line.specs.Prepared.{machine_of, pass_of, deed_of}
+use Rattle.usb_line.specs.Prepared.{machine_of, pass_of, host_call_of}
 use Rattle.usb_prepare.specs.Below.{below}
-use Rattle.usb_line.specs.Run.{urbs_of, Doing, deed_entries, IsDownAnswer, IsAnswered}
-use Rattle.usb_line.specs.Line.{Progress, adds, doing, all_flagged, shut_marks, shutting, ClaimsEach, none, one}
+use Rattle.usb_line.specs.Run.{urbs_of, CallRecord, host_call_entries, IsDownAnswer, IsAnswered}
+use Rattle.usb_line.specs.Line.{Progress, adds, call_record, all_flagged, shut_marks, shutting, ClaimsEach, none, one}
 use Rattle.usb_line.proofs.Entries.{AllFollow}
 use Rattle.usb_line.proofs.MayFollow.{mark_follows, flag_follows}
 use Rattle.usb_line.proofs.Stills.{flags_still, flags_pass, marks_still, marks_pass}
 use Rattle.usb_line.proofs.Each.{marks_by, each_follow}
 use Rattle.usb_line.proofs.Held.{down_at, no_flag, all_flags, marks_no_flag, claims_no_flag, holds_down}
-use Rattle.usb_line.proofs.Deeds.{is_hubs}
+use Rattle.usb_line.proofs.HostCalls.{is_hubs}
 use Rattle.usb_line.proofs.Marked.{times-append}
 use Rattle.usb_line.proofs.Serving.{stills_bare, Serves}
 use Rattle.usb_line.proofs.Waits.{wait_serves, wait_turned, wait_quiet}
@@ -83,7 +83,7 @@ module _ (s : Scene) (p : ℕ) (off : p ≢ SERVER) (there : p < 2 + (length s.t
       (made_entries s k p (claim_entries p u (state_of k.history u).rest) off (refl, (refl, tt))
       (claim_follow s p u there k.history quiet.0 quiet.1 (holds_down (held_of (part_of k.history p) u) down)) (tt, (tt, tt)) waited.serves))
 
-module _ (s : Scene) (good : IsWellFormed s) (f : Progress) (i : ℕ) (c : Call) (can : CanCall s f i c) (is : deed_of s c ≡ deed.Down) (up : f.down ≡ false) where
+module _ (s : Scene) (good : IsWellFormed s) (f : Progress) (i : ℕ) (c : Call) (can : CanCall s f i c) (is : host_call_of s c ≡ host_call.Down) (up : f.down ≡ false) where
   abbrev p : ℕ
   p = pass_of s i
 
@@ -126,13 +126,13 @@ module _ (s : Scene) (good : IsWellFormed s) (f : Progress) (i : ℕ) (c : Call)
       ∙ all_flags v (part_of f.history p) p (urb_count s) (in_below (urb_count s) v l))
 
   module _ (rests : List (Option ℕ)) (m : Progress) (claims : ClaimsEach s p (shutting s p f) (urbs_of s) rests m) where
-    abbrev made : Doing
-    made = doing f i c told.Done (shut_marks s p f) rests
+    abbrev made : CallRecord
+    made = call_record f i c told.Done (shut_marks s p f) rests
 
     -- the host is taken down
     pub down_called : IsCalled s f i made m
     down_called = record {
-      made = subst (λ dd. IsMadeBy s f p (deed_entries s p c dd told.Done (shut_marks s p f) rests f.down) m) (sym is)
+      made = subst (λ dd. IsMadeBy s f p (host_call_entries s p c dd told.Done (shut_marks s p f) rests f.down) m) (sym is)
           (made_on s f (shutting s p f) m p (flags ++ marks) (claims_of p (urbs_of s) rests) shut
           (claims_made s p (not_server s i) (is_pass s i can.near) (shutting s p f) good (urbs_of s) rests m claims all_down shut.serves));
       answered = subst (λ dd. IsAnswered s made dd told.Done) (sym is) (

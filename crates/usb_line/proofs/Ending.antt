@@ -47,9 +47,9 @@ module _ (s : Scene) where
       ∙ append_assoc (part_of m.history main) begins last) in
       ap (rejects_at v) part ∙ (kill_effect (part_of m.history main) v main u mark rest ∙ closes_held v f us m before)
 
-  closes_doings : (f : Progress) (us : List ℕ) (m : Progress) → Closes s f us m → m.doings ≡ f.doings
-  closes_doings f _ _ none = refl
-  closes_doings f _ _ (one us u m k before waits) = (wait_turned s u (killing main u m) k waits).doings ∙ closes_doings f us m before
+  closes_call_records : (f : Progress) (us : List ℕ) (m : Progress) → Closes s f us m → m.call_records ≡ f.call_records
+  closes_call_records f _ _ none = refl
+  closes_call_records f _ _ (one us u m k before waits) = (wait_turned s u (killing main u m) k waits).call_records ∙ closes_call_records f us m before
 
   module _ (f : Progress) (run : LineRun) (is : IsCalled s f run) where
     goes : Goes s f
@@ -102,6 +102,6 @@ module _ (s : Scene) where
           record {
             far = adds at.far xs;
             line = record { called = f; killed = at.far; in_line = is.in_line; all = is.all; closes = closes; seen = refl };
-            same = closes_doings f (urbs_of s) at.far closes;
+            same = closes_call_records f (urbs_of s) at.far closes;
             shows = shows_still s at.far xs (seen_still main (urbs_of s)) now after at.shows stands;
           }

@@ -29,8 +29,8 @@ use Rattle.usb_machine.proofs.Marks.{accepts_open, mark_of_queued}
 use Rattle.usb_scene.specs.declared.scene.Scene.{Scene}
 use Rattle.usb_line.specs.declared.made.Outcome.{Outcome}
 use Rattle.usb_line.specs.declared.made.Outcome.TheVariants as outcome
-use Rattle.usb_line.specs.Prepared.{machine_of, asking_of}
-use Rattle.usb_line.specs.Run.{Doing, Giveback, IsRun, is_aside, moved_in, resent, handled_by, handler_entries, given_entries, giveback_entries}
+use Rattle.usb_line.specs.Prepared.{machine_of, question_at}
+use Rattle.usb_line.specs.Run.{CallRecord, Giveback, IsRun, is_aside, moved_in, resent, handled_by, handler_entries, given_entries, giveback_entries}
 use Rattle.usb_line.proofs.Givebacks.{asked_each}
 
 -- whether a transfer of URB u ended by itself since its last Give
@@ -234,13 +234,13 @@ submit_skips p u t (Fault e) = (skip_plain _ _ (λ u b. refl) (λ m. refl), tt)
 
 module _ (s : Scene) (r : Giveback) where
   handler_skips : AllSkip (handler_entries s r)
-  handler_skips = AllSkip-append (handled_by s r.urb (moved_in s r) (resent s r) (asking_of s r.urb) r.outcome) _ (go r.outcome) (skip_plain _ _ (λ u b. refl) (λ m. refl), tt)
+  handler_skips = AllSkip-append (handled_by s r.urb (moved_in s r) (resent s r) (question_at s r.urb) r.outcome) _ (go r.outcome) (skip_plain _ _ (λ u b. refl) (λ m. refl), tt)
     where
-      go : (o : Outcome) → AllSkip (handled_by s r.urb (moved_in s r) (resent s r) (asking_of s r.urb) o)
+      go : (o : Outcome) → AllSkip (handled_by s r.urb (moved_in s r) (resent s r) (question_at s r.urb) o)
       go outcome.Rest = (skip_plain _ _ (λ u b. refl) (λ m. refl), tt)
       go (outcome.Again Zero) = (skip_plain _ _ (λ u b. refl) (λ m. refl), (skip_plain _ _ (λ u b. refl) (λ m. refl), tt))
       go (outcome.Again (Fault e)) = (skip_plain _ _ (λ u b. refl) (λ m. refl), (skip_plain _ _ (λ u b. refl) (λ m. refl), tt))
-      go (outcome.Asked c) = (skip_plain _ _ (λ u b. refl) (λ m. refl), asked_each s AllSkip (asking_of s r.urb) c tt (λ a is none. submit_skips SERVER a.urb a.transfer c))
+      go (outcome.Asked c) = (skip_plain _ _ (λ u b. refl) (λ m. refl), asked_each s AllSkip (question_at s r.urb) c tt (λ a is none. submit_skips SERVER a.urb a.transfer c))
 
   module _ (m : List Entry) (none : (u : ℕ) → finished_of m u ≡ false) where
     abbrev finish : Entry
@@ -281,5 +281,5 @@ rounds_flags s (r ∷ rounds) m none = ap (flags_after m) (flat_map-cons (giveba
     ∙ (λ i. one_flag s r m none i ++ rounds_flags s rounds (m ++ giveback_entries s r) (none_finished s r m none) i))
 
 -- a giveback says whether the transfer that it gave back ended by itself
-pub run_flags : (s : Scene) (h : List Entry) (doings : List Doing) (rounds : List Giveback) → IsRun s h doings rounds → flags_of h ≡ map (λ r. r.finished) rounds
-run_flags s h doings rounds run = (are_served (machine_of s) h run.legal).flags ∙ (ap flags_of run.server ∙ rounds_flags s rounds [] (λ u. refl))
+pub run_flags : (s : Scene) (h : List Entry) (call_records : List CallRecord) (rounds : List Giveback) → IsRun s h call_records rounds → flags_of h ≡ map (λ r. r.finished) rounds
+run_flags s h call_records rounds run = (are_served (machine_of s) h run.legal).flags ∙ (ap flags_of run.server ∙ rounds_flags s rounds [] (λ u. refl))

@@ -25,8 +25,8 @@ use Rattle.usb_machine.proofs.Prefixes.{legal_before}
 use Rattle.usb_scene.specs.declared.scene.Scene.{Scene}
 use Rattle.usb_line.specs.declared.made.Outcome.{Outcome}
 use Rattle.usb_line.specs.declared.made.Outcome.TheVariants as outcome
-use Rattle.usb_line.specs.Prepared.{machine_of, asking_of}
-use Rattle.usb_line.specs.Run.{Doing, Giveback, IsRun, moved_in, resent, rest_entry, handled_by, handler_entries, given_entries, giveback_entries, episode_of}
+use Rattle.usb_line.specs.Prepared.{machine_of, question_at}
+use Rattle.usb_line.specs.Run.{CallRecord, Giveback, IsRun, moved_in, resent, rest_entry, handled_by, handler_entries, given_entries, giveback_entries, episode_of}
 use Rattle.usb_line.proofs.Givebacks.{asked_each}
 use Rattle.usb_line.proofs.OneStatus.{IsOut, IsGiveAt, at as give_of, legal as legal_at, out as out_of, first as first_at, carries as carries_at}
 use Rattle.usb_line.proofs.Carrying.{first_of, carried_after, carry, carried_of, carry-append, stays, leaves, other_gives, is_carried, stands, by_both}
@@ -93,15 +93,15 @@ module _ (s : Scene) (u : ℕ) (r : Giveback) where
   abbrev again : Transfer
   again = resent s r
 
-  handled_begins : (o : Outcome) → IsOff u r.urb o → AllBegin u (handled_by s r.urb (moved_in s r) again (asking_of s r.urb) o)
+  handled_begins : (o : Outcome) → IsOff u r.urb o → AllBegin u (handled_by s r.urb (moved_in s r) again (question_at s r.urb) o)
   handled_begins outcome.Rest off = (tt, tt)
   handled_begins (outcome.Again Zero) off = (λ same ok. absurd (off same), (tt, tt))
   handled_begins (outcome.Again (Fault e)) off = (λ same ok. absurd (true≢false (sym ok)), (tt, tt))
   handled_begins (outcome.Asked c) off =
-      (tt, asked_each s (AllBegin u) (asking_of s r.urb) c tt (λ a is none. submit_begins u SERVER a.urb a.transfer c (asking_begins s r.urb a is)))
+      (tt, asked_each s (AllBegin u) (question_at s r.urb) c tt (λ a is none. submit_begins u SERVER a.urb a.transfer c (asking_begins s r.urb a is)))
 
   handler_begins : IsOff u r.urb r.outcome → AllBegin u (handler_entries s r)
-  handler_begins off = AllBegin-append u (handled_by s r.urb (moved_in s r) again (asking_of s r.urb) r.outcome) (plain_entry SERVER (End record { 0 = r.urb }) ∷ []) (handled_begins r.outcome off) (tt, tt)
+  handler_begins off = AllBegin-append u (handled_by s r.urb (moved_in s r) again (question_at s r.urb) r.outcome) (plain_entry SERVER (End record { 0 = r.urb }) ∷ []) (handled_begins r.outcome off) (tt, tt)
 
   back_begins : IsOff u r.urb r.outcome → AllBegin u (giveback_entries s r)
   back_begins off = AllBegin-append u (given_entries r.urb r.status r.finished) (handler_entries s r) (go r.finished) (handler_begins off)
@@ -154,28 +154,28 @@ carried_on s u before r =
     ∙ ap (λ l. flat_map (giveback_entries s) before ++ l) (flat_map-cons (giveback_entries s) r [] ∙ append-nil (giveback_entries s r)))
     ∙ carry-append u None (flat_map (giveback_entries s) before) (giveback_entries s r)
 
-module _ (s : Scene) (h : List Entry) (doings : List Doing) (rounds : List Giveback) (run : IsRun s h doings rounds)
+module _ (s : Scene) (h : List Entry) (call_records : List CallRecord) (rounds : List Giveback) (run : IsRun s h call_records rounds)
     (front : List Giveback) (next : Giveback) (behind : List Giveback) (split : rounds ≡ front ++ next ∷ behind) where
   abbrev at : IsGiveAt [] h (length front) (episode_of next)
-  at = give_of s h doings rounds run (length front) next (stands s h doings rounds run front next behind split)
+  at = give_of s h call_records rounds run (length front) next (stands s h call_records rounds run front next behind split)
 
   abbrev out : IsOut at.pre next.urb
-  out = out_of s h doings rounds run (length front) next (stands s h doings rounds run front next behind split)
+  out = out_of s h call_records rounds run (length front) next (stands s h call_records rounds run front next behind split)
 
   carries : out.submit.carried ≡ Some next.sent
-  carries = carries_at s h doings rounds run (length front) next (stands s h doings rounds run front next behind split)
+  carries = carries_at s h call_records rounds run (length front) next (stands s h call_records rounds run front next behind split)
 
   parts : h ≡ out.before ++ out.submit ∷ (out.between ++ at.give ∷ at.post)
   parts = at.parts ∙ (ap (λ l. l ++ at.give ∷ at.post) out.parts ∙ append_assoc out.before (out.submit ∷ out.between) (at.give ∷ at.post))
 
   before_legal : IsLegal (machine_of s) out.before
   before_legal = legal_before (machine_of s) out.before out.submit out.between
-      (subst (IsLegal (machine_of s)) out.parts (legal_at s h doings rounds run (length front) next (stands s h doings rounds run front next behind split)))
+      (subst (IsLegal (machine_of s)) out.parts (legal_at s h call_records rounds run (length front) next (stands s h call_records rounds run front next behind split)))
 
   -- the submit found nothing of the URB
   was_none : carried_of out.before next.urb ≡ None
   was_none =
-      let first = first_at s h doings rounds run (length front) next (stands s h doings rounds run front next behind split) in
+      let first = first_at s h call_records rounds run (length front) next (stands s h call_records rounds run front next behind split) in
       let says = first.answers ∙ ap (λ e. answer_of e (state_of out.before (urb_of e)) (line_of (machine_of s) out.before (end_of e))) out.submits in
       (is_carried (machine_of s) next.urb out.before before_legal).none (accepts_open (state_of out.before next.urb) (sym (ap accepted says) ∙ out.accepts)).queued
 
@@ -196,7 +196,7 @@ module _ (s : Scene) (h : List Entry) (doings : List Doing) (rounds : List Giveb
 
   by_other : out.submit.pass ≢ SERVER → next.sent.from ≡ 0
   by_other off = go out.submit.event out.submits out.submit.carried carries out.submit.answer out.accepts
-      (in_part next.urb out.before out.submit (out.between ++ at.give ∷ at.post) (subst (λ l. AllBegin next.urb (part_of l out.submit.pass)) parts (parts_begin next.urb s h doings rounds run out.submit.pass off)))
+      (in_part next.urb out.before out.submit (out.between ++ at.give ∷ at.post) (subst (λ l. AllBegin next.urb (part_of l out.submit.pass)) parts (parts_begin next.urb s h call_records rounds run out.submit.pass off)))
     where
       go : (e : Event) → e ≡ Submit record { 0 = next.urb } out.number → (c : Option Transfer) → c ≡ Some next.sent → (a : Answer) → accepted a ≡ true → Begins next.urb e a c → next.sent.from ≡ 0
       go e is c the a ok begins = (subst (λ c. Begins next.urb (Submit record { 0 = next.urb } out.number) a c) the (subst (λ e. Begins next.urb e a c) is begins)) refl ok
@@ -204,5 +204,5 @@ module _ (s : Scene) (h : List Entry) (doings : List Doing) (rounds : List Giveb
   -- what was not sent on begins at the first byte
   pub begins_at_first : IsFromZero (carried_of (flat_map (giveback_entries s) front) next.urb) → next.sent.from ≡ 0
   begins_at_first zero = dite (ℕ_discrete out.submit.pass SERVER)
-      (λ is. subst IsFromZero (sym (by_both s h doings rounds run front next behind split) ∙ by_server is) zero)
+      (λ is. subst IsFromZero (sym (by_both s h call_records rounds run front next behind split) ∙ by_server is) zero)
       (λ off. by_other off)

@@ -13,7 +13,7 @@ use Rattle.usb_machine.proofs.Rooms.{queued_has_home, home_below}
 use Rattle.usb_machine.proofs.Turns.{takes_turns}
 use Rattle.usb_scene.specs.declared.scene.Scene.{Scene}
 use Rattle.usb_line.specs.Prepared.{machine_of}
-use Rattle.usb_line.specs.Run.{Doing, Giveback, IsRun, episode_of, times_back}
+use Rattle.usb_line.specs.Run.{CallRecord, Giveback, IsRun, episode_of, times_back}
 use Rattle.usb_line.proofs.Episodes.{episodes-append}
 
 -- how many of these episodes are of URB u
@@ -45,7 +45,7 @@ back_among : (u : ℕ) (rounds : List Giveback) → among u (map episode_of roun
 back_among u [] = refl
 back_among u (r ∷ rounds) = ap (λ n. cond (eqb r.urb u) 1 0 + n) (back_among u rounds) ∙ sym (sum_by-cons (λ (r : Giveback). cond (eqb r.urb u) 1 0) r rounds)
 
-module _ (s : Scene) (h : List Entry) (doings : List Doing) (rounds : List Giveback) (run : IsRun s h doings rounds) where
+module _ (s : Scene) (h : List Entry) (call_records : List CallRecord) (rounds : List Giveback) (run : IsRun s h call_records rounds) where
   pub none_queued : (u : ℕ) → (state_of h u).queued ≡ false
   none_queued u = go (state_of h u).queued refl
     where

@@ -21,7 +21,7 @@ use Rattle.usb_prepare.specs.Prepared.{probes_of}
 use Rattle.usb_prepare.specs.Layout.{homes_of}
 use Rattle.usb_line.specs.declared.made.Outcome.{Outcome}
 use Rattle.usb_line.specs.declared.made.Outcome.TheVariants as outcome
-use Rattle.usb_line.specs.Prepared.{owner_of, origin_of, asking_of, read_of}
+use Rattle.usb_line.specs.Prepared.{owner_of, origin_of, question_at, read_of}
 use Rattle.usb_line.specs.Run.{Giveback, acts, handler_entries, is_out}
 use Rattle.usb_line.proofs.ExampleScenes.{urb, transfer, typing, port, printing, own}
 
@@ -63,18 +63,18 @@ big_h = 0x02 ∷ 0x00 ∷ 0x0B ∷ 0x00 ∷ 0x00 ∷ 0x00 ∷ 0x00 ∷ 0x00 ∷ 
 
 -- a report came, so the read goes on with its whole buffer
 a_read_goes_on : acts typing [] 0 Zero (key_read big_h 8) ≡ action.Again 0 8
-unfolding owner_of asking_of probes_of enumerated attached_as device_ends shapes_of first_state
+unfolding owner_of question_at probes_of enumerated attached_as device_ends shapes_of first_state
 a_read_goes_on = refl
 
 -- the buffer is the one that came back, of which nothing is moved yet
 it_is_submitted_again : handler_entries typing (back 0 (key_read (replicate 8 0) 0) (Packet big_h ∷ []) Zero (outcome.Again Zero))
     ≡ submits 0 (key_read big_h 0) Zero ∷ links 0 ∷ ends 0 ∷ []
-unfolding owner_of asking_of homes_of probes_of enumerated attached_as device_ends shapes_of first_state
+unfolding owner_of question_at homes_of probes_of enumerated attached_as device_ends shapes_of first_state
 it_is_submitted_again = refl
 
 -- a fault that may pass does not stop it: a packet that was damaged, or too long
 some_faults_pass : (acts typing [] 0 (Fault EPROTO) (key_read big_h 0) ≡ action.Again 0 8) × (acts typing [] 0 (Fault EOVERFLOW) (key_read big_h 0) ≡ action.Again 0 8)
-unfolding owner_of asking_of probes_of enumerated attached_as device_ends shapes_of first_state
+unfolding owner_of question_at probes_of enumerated attached_as device_ends shapes_of first_state
 some_faults_pass = (refl, refl)
 
 -- a read that was killed, unlinked or shut down rests, and so does one whose endpoint is halted
@@ -82,23 +82,23 @@ a_read_rests : (acts typing [] 0 (Fault ENOENT) (key_read big_h 0) ≡ action.Re
     × (acts typing [] 0 (Fault ECONNRESET) (key_read big_h 0) ≡ action.Rest)
     × (acts typing [] 0 (Fault ESHUTDOWN) (key_read big_h 0) ≡ action.Rest)
     × (acts typing [] 0 (Fault EPIPE) (key_read big_h 0) ≡ action.Rest)
-unfolding owner_of asking_of probes_of enumerated attached_as device_ends shapes_of first_state
+unfolding owner_of question_at probes_of enumerated attached_as device_ends shapes_of first_state
 a_read_rests = (refl, refl, refl, refl)
 
 a_killed_read_is_not_submitted : handler_entries typing (back 0 (key_read (replicate 8 0) 0) [] (Fault ENOENT) outcome.Rest)
     ≡ rests 0 (key_read (replicate 8 0) 0) ∷ ends 0 ∷ []
-unfolding owner_of asking_of homes_of probes_of enumerated attached_as device_ends shapes_of first_state
+unfolding owner_of question_at homes_of probes_of enumerated attached_as device_ends shapes_of first_state
 a_killed_read_is_not_submitted = refl
 
 -- a pass that kills the URB raised its reject before the handler ran: the submit is refused, and what it would have sent rests
 a_refused_read_rests : handler_entries typing (back 0 (key_read (replicate 8 0) 0) (Packet big_h ∷ []) Zero (outcome.Again (Fault EPERM)))
     ≡ submits 0 (key_read big_h 0) (Fault EPERM) ∷ rests 0 (key_read big_h 0) ∷ ends 0 ∷ []
-unfolding owner_of asking_of homes_of probes_of enumerated attached_as device_ends shapes_of first_state
+unfolding owner_of question_at homes_of probes_of enumerated attached_as device_ends shapes_of first_state
 a_refused_read_rests = refl
 
 -- the lights are not sent again: their transfer rests
 lights_rest : acts typing [] 1 Zero (transfer 8 (0x02 ∷ []) 0 1 1) ≡ action.Rest
-unfolding owner_of asking_of probes_of enumerated attached_as device_ends shapes_of first_state
+unfolding owner_of question_at probes_of enumerated attached_as device_ends shapes_of first_state
 lights_rest = refl
 
 -- The serial port.
@@ -123,29 +123,29 @@ few = 0x41 ∷ 0x42 ∷ 0x43 ∷ replicate 125 0
 
 -- each of the two goes on by itself, with its own buffer
 both_go_on : (acts port [] 1 Zero (byte_read 2000001 many 64) ≡ action.Again 0 128) × (acts port [] 2 Zero (byte_read 2000002 few 3) ≡ action.Again 0 128)
-unfolding owner_of asking_of probes_of enumerated attached_as device_ends shapes_of first_state
+unfolding owner_of question_at probes_of enumerated attached_as device_ends shapes_of first_state
 both_go_on = (refl, refl)
 
 the_second_is_submitted_again : handler_entries port (back 2 (byte_read 2000002 (replicate 128 0) 0) (Packet (0x41 ∷ 0x42 ∷ 0x43 ∷ []) ∷ []) Zero (outcome.Again Zero))
     ≡ submits 2 (byte_read 2000002 few 0) Zero ∷ links 2 ∷ ends 2 ∷ []
-unfolding owner_of asking_of homes_of probes_of enumerated attached_as device_ends shapes_of first_state
+unfolding owner_of question_at homes_of probes_of enumerated attached_as device_ends shapes_of first_state
 the_second_is_submitted_again = refl
 
 -- the first one has a packet, waits for more and is killed: it rests with the 64 bytes, and the second one still goes on
 the_first_is_killed : (acts port [] 1 (Fault ENOENT) (byte_read 2000001 many 64) ≡ action.Rest)
     × (handler_entries port (back 1 (byte_read 2000001 (replicate 128 0) 0) (Packet (replicate 64 0x55) ∷ Nak ∷ []) (Fault ENOENT) outcome.Rest)
     ≡ rests 1 (byte_read 2000001 many 64) ∷ ends 1 ∷ [])
-unfolding owner_of asking_of homes_of probes_of enumerated attached_as device_ends shapes_of first_state
+unfolding owner_of question_at homes_of probes_of enumerated attached_as device_ends shapes_of first_state
 the_first_is_killed = (refl, refl)
 
 the_second_goes_on : acts port (back 1 (byte_read 2000001 (replicate 128 0) 0) (Packet (replicate 64 0x55) ∷ Nak ∷ []) (Fault ENOENT) outcome.Rest ∷ []) 2 Zero (byte_read 2000002 few 3)
     ≡ action.Again 0 128
-unfolding owner_of asking_of probes_of enumerated attached_as device_ends shapes_of first_state
+unfolding owner_of question_at probes_of enumerated attached_as device_ends shapes_of first_state
 the_second_goes_on = refl
 
 -- what was written rests, also after a fault
 a_write_rests : (acts port [] 3 Zero (transfer 6 (0x41 ∷ []) 0 1 1) ≡ action.Rest) × (acts port [] 3 (Fault EPROTO) (transfer 6 (0x41 ∷ []) 0 1 0) ≡ action.Rest)
-unfolding owner_of asking_of probes_of enumerated attached_as device_ends shapes_of first_state
+unfolding owner_of question_at probes_of enumerated attached_as device_ends shapes_of first_state
 a_write_rests = (refl, refl)
 
 -- The printer, with a job of 10,000 bytes.
@@ -153,22 +153,22 @@ a_write_rests = (refl, refl)
 -- the first window of 8,192 bytes went well, so the next one has what is left, and after that the job is over
 a_job_goes_on : (bytes : List ℕ) → length bytes ≡ 10000
     → (acts printing [] 0 Zero (transfer 6 bytes 0 8192 8192) ≡ action.Again 8192 1808) × (acts printing [] 0 Zero (transfer 6 bytes 8192 1808 1808) ≡ action.Rest)
-unfolding owner_of asking_of probes_of enumerated attached_as device_ends shapes_of first_state
+unfolding owner_of question_at probes_of enumerated attached_as device_ends shapes_of first_state
 a_job_goes_on bytes e = rw e (refl, refl)
 
 -- 128 packets of 64 bytes were acknowledged
 the_next_window_is_submitted : (bytes : List ℕ) → length bytes ≡ 10000
     → handler_entries printing (back 0 (transfer 6 bytes 0 8192 0) (replicate 128 Ack) Zero (outcome.Again Zero))
     ≡ submits 0 (transfer 6 bytes 8192 1808 0) Zero ∷ links 0 ∷ ends 0 ∷ []
-unfolding owner_of asking_of homes_of probes_of enumerated attached_as device_ends shapes_of first_state
+unfolding owner_of question_at homes_of probes_of enumerated attached_as device_ends shapes_of first_state
 the_next_window_is_submitted bytes e = rw e refl
 
 -- the driver's question: GET_PORT_STATUS of one byte (printer class 1.1, section 4.2.2), by URB 1. After that one itself it asks nothing
 abbrev question : List ℕ → ℕ → Transfer
 question buf actual = record (transfer 2000000 buf 0 1 actual) { setup = Some (0xA1 ∷ 0x01 ∷ 0x00 ∷ 0x00 ∷ 0x00 ∷ 0x00 ∷ 0x01 ∷ 0x00 ∷ []) }
 
-the_printers_question : (asking_of printing 0 ≡ Some (record { urb = 1; transfer = question (0x00 ∷ []) 0 })) × (asking_of printing 1 ≡ None)
-unfolding asking_of owner_of origin_of probes_of enumerated attached_as device_ends shapes_of first_state
+the_printers_question : (question_at printing 0 ≡ Some (record { urb = 1; transfer = question (0x00 ∷ []) 0 })) × (question_at printing 1 ≡ None)
+unfolding question_at owner_of origin_of probes_of enumerated attached_as device_ends shapes_of first_state
 the_printers_question = (refl, refl)
 
 -- the device stalls in the second window, and the question is accepted, or refused where the script uses URB 1
@@ -184,12 +184,12 @@ a_fault_is_asked_about : (bytes : List ℕ)
     → (acts printing [] 0 (Fault EPIPE) (transfer 6 bytes 8192 1808 0) ≡ action.Ask)
     × (handler_entries printing (jammed bytes Zero) ≡ rests 0 (transfer 6 bytes 8192 1808 0) ∷ submits 1 (question (0x00 ∷ []) 0) Zero ∷ links 1 ∷ ends 0 ∷ [])
     × (handler_entries printing (jammed bytes (Fault EBUSY)) ≡ rests 0 (transfer 6 bytes 8192 1808 0) ∷ submits 1 (question (0x00 ∷ []) 0) (Fault EBUSY) ∷ ends 0 ∷ [])
-unfolding asking_of owner_of origin_of homes_of probes_of enumerated attached_as device_ends shapes_of first_state
+unfolding question_at owner_of origin_of homes_of probes_of enumerated attached_as device_ends shapes_of first_state
 a_fault_is_asked_about bytes = (refl, refl, refl)
 
 -- a job that was killed is not asked about
 a_killed_job_rests : (bytes : List ℕ) → acts printing [] 0 (Fault ENOENT) (transfer 6 bytes 8192 1808 0) ≡ action.Rest
-unfolding asking_of owner_of origin_of probes_of enumerated attached_as device_ends shapes_of first_state
+unfolding question_at owner_of origin_of probes_of enumerated attached_as device_ends shapes_of first_state
 a_killed_job_rests bytes = refl
 
 -- an accepted question is out until it comes back, and a refused one is not out
@@ -199,7 +199,7 @@ when_it_is_out : (bytes : List ℕ)
     × (is_out printing 0 (jammed bytes (Fault EBUSY) ∷ []) ≡ false)
     × (is_out printing 0 (jammed bytes Zero ∷ answered ∷ []) ≡ false)
     × (is_out printing 0 (jammed bytes Zero ∷ answered ∷ jammed bytes Zero ∷ []) ≡ true)
-unfolding asking_of owner_of origin_of homes_of probes_of enumerated attached_as device_ends shapes_of first_state
+unfolding question_at owner_of origin_of homes_of probes_of enumerated attached_as device_ends shapes_of first_state
 when_it_is_out bytes = (refl, refl, refl, refl, refl)
 
 -- while it is out nothing is asked after a fault: the job only rests
@@ -207,14 +207,14 @@ one_question_at_a_time : (bytes : List ℕ)
     → (acts printing (jammed bytes Zero ∷ []) 0 (Fault EPIPE) (transfer 6 bytes 0 8192 0) ≡ action.Rest)
     × (acts printing (jammed bytes (Fault EBUSY) ∷ []) 0 (Fault EPIPE) (transfer 6 bytes 0 8192 0) ≡ action.Ask)
     × (acts printing (jammed bytes Zero ∷ answered ∷ []) 0 (Fault EPIPE) (transfer 6 bytes 0 8192 0) ≡ action.Ask)
-unfolding asking_of owner_of origin_of homes_of probes_of enumerated attached_as device_ends shapes_of first_state
+unfolding question_at owner_of origin_of homes_of probes_of enumerated attached_as device_ends shapes_of first_state
 one_question_at_a_time bytes = (refl, refl, refl)
 
 -- the question itself rests when it came back, with its byte, whatever its status
 a_question_rests : (acts printing [] 1 Zero (question (0x18 ∷ []) 1) ≡ action.Rest)
     × (acts printing [] 1 (Fault EPIPE) (question (0x00 ∷ []) 0) ≡ action.Rest)
     × (handler_entries printing answered ≡ rests 1 (question (0x18 ∷ []) 1) ∷ ends 1 ∷ [])
-unfolding asking_of owner_of origin_of homes_of probes_of enumerated attached_as device_ends shapes_of first_state
+unfolding question_at owner_of origin_of homes_of probes_of enumerated attached_as device_ends shapes_of first_state
 a_question_rests = (refl, refl, refl)
 
 -- The raw device.
@@ -243,18 +243,18 @@ third = back 0 (read_of_four (byte 2) 0) (Packet (0x03 ∷ []) ∷ []) Zero outc
 it_goes_on_twice : (acts own [] 0 Zero (read_of_four (byte 1) 1) ≡ action.Again 0 4)
     × (acts own (first ∷ []) 0 Zero (read_of_four (byte 2) 1) ≡ action.Again 0 4)
     × (acts own (first ∷ second ∷ []) 0 Zero (read_of_four (byte 3) 1) ≡ action.Rest)
-unfolding asking_of owner_of probes_of attached_as device_ends shapes_of
+unfolding question_at owner_of probes_of attached_as device_ends shapes_of
 it_goes_on_twice = (refl, refl, refl)
 
 what_it_leaves : (handler_entries own first ≡ submits 0 (read_of_four (byte 1) 0) Zero ∷ links 0 ∷ ends 0 ∷ [])
     × (handler_entries own second ≡ submits 0 (read_of_four (byte 2) 0) Zero ∷ links 0 ∷ ends 0 ∷ [])
     × (handler_entries own third ≡ rests 0 (read_of_four (byte 3) 1) ∷ ends 0 ∷ [])
-unfolding asking_of owner_of homes_of probes_of attached_as device_ends shapes_of
+unfolding question_at owner_of homes_of probes_of attached_as device_ends shapes_of
 what_it_leaves = (refl, refl, refl)
 
 -- whatever the status is. Each URB counts for itself: the two times of URB 0 take nothing from URB 1, and URB 2 has no more
 whatever_the_status : (acts own [] 0 (Fault ENOENT) (read_of_four (byte 0) 0) ≡ action.Again 0 4)
     × (acts own (first ∷ second ∷ []) 1 (Fault EPIPE) (read_of_four (byte 0) 0) ≡ action.Again 0 4)
     × (acts own [] 2 Zero (transfer 9 [] 0 0 0) ≡ action.Rest)
-unfolding asking_of owner_of probes_of attached_as device_ends shapes_of
+unfolding question_at owner_of probes_of attached_as device_ends shapes_of
 whatever_the_status = (refl, refl, refl)

@@ -22,8 +22,8 @@ use Rattle.usb_prepare.specs.Layout.{home}
 use Rattle.usb_line.specs.declared.owner.Owner.{Owner}
 use Rattle.usb_line.specs.declared.made.Outcome.{Outcome}
 use Rattle.usb_line.specs.declared.made.Outcome.TheVariants as outcome
-use Rattle.usb_line.specs.Prepared.{owner_of, Asking, asking_of}
-use Rattle.usb_line.specs.Run.{Doing, Giveback, IsRun, moved_in, resent, giveback_entries, may_again, question_out, asks_or_rests, action_by, acts, IsHandled, AreHandled}
+use Rattle.usb_line.specs.Prepared.{owner_of, Question, question_at}
+use Rattle.usb_line.specs.Run.{CallRecord, Giveback, IsRun, moved_in, resent, giveback_entries, may_again, question_out, asks_or_rests, action_by, acts, IsHandled, AreHandled}
 use Rattle.usb_line.specs.RunLaws.{takes_packets, write_of, writes_of, IsRefused, IsCutOff, IsPrinted, IsForWrites}
 use Rattle.usb_line.proofs.OneStatus.{sent_window}
 use Rattle.usb_line.proofs.Carrying.{carry, carried_of, stands, sent_as, none_left}
@@ -42,7 +42,7 @@ Acts Ask (outcome.Again code) = ⊥
 Acts Ask outcome.Rest = Unit {0}
 Acts Ask (outcome.Asked code) = Unit {0}
 
-acts_so : (a : Action) (asking : Option Asking) (out : Bool) (o : Outcome) → IsHandled (asks_or_rests asking out a) o → Acts a o
+acts_so : (a : Action) (asking : Option Question) (out : Bool) (o : Outcome) → IsHandled (asks_or_rests asking out a) o → Acts a o
 acts_so a asking out o is = go a asking out is
   where
     again : (from len : ℕ) (o : Outcome) → IsHandled (Again from len) o → Acts (Again from len) o
@@ -65,7 +65,7 @@ acts_so a asking out o is = go a asking out is
     rather outcome.Rest is = tt
     rather (outcome.Asked code) is = tt
 
-    go : (a : Action) (asking : Option Asking) (out : Bool) → IsHandled (asks_or_rests asking out a) o → Acts a o
+    go : (a : Action) (asking : Option Question) (out : Bool) → IsHandled (asks_or_rests asking out a) o → Acts a o
     go (Again from len) None out is = again from len o is
     go (Again from len) (Some q) true is = again from len o is
     go (Again from len) (Some q) false is = again from len o is
@@ -186,7 +186,7 @@ module _ (s : Scene) where
   abbrev mine : ℕ → List Giveback → List Giveback
   mine u l = filter (λ (r : Giveback). eqb r.urb u) l
 
-  module _ (h : List Entry) (doings : List Doing) (rounds : List Giveback) (run : IsRun s h doings rounds) (u : ℕ) (writer : IsForWrites s u) where
+  module _ (h : List Entry) (call_records : List CallRecord) (rounds : List Giveback) (run : IsRun s h call_records rounds) (u : ℕ) (writer : IsForWrites s u) where
     -- one of the URB's givebacks
     module _ (before : List Giveback) (r : Giveback) (behind : List Giveback) (parts : rounds ≡ before ++ r ∷ behind) (same : r.urb ≡ u) where
       abbrev shape : Shape
@@ -212,14 +212,14 @@ module _ (s : Scene) where
 
       back : IsBack s r
       back = record {
-        window = record { write = refl; window = moved_window shape r.sent r.replies (sent_window s h doings rounds run (length before) r (stands s h doings rounds run before r behind parts)) };
-        acts = acts_so (asked_by r) (asking_of s r.urb) (question_out s before (owner_of s r.urb)) r.outcome
-            (subst (λ a. IsHandled (asks_or_rests (asking_of s r.urb) (question_out s before (owner_of s r.urb)) a) r.outcome)
+        window = record { write = refl; window = moved_window shape r.sent r.replies (sent_window s h call_records rounds run (length before) r (stands s h call_records rounds run before r behind parts)) };
+        acts = acts_so (asked_by r) (question_at s r.urb) (question_out s before (owner_of s r.urb)) r.outcome
+            (subst (λ a. IsHandled (asks_or_rests (question_at s r.urb) (question_out s before (owner_of s r.urb)) a) r.outcome)
             (ap (λ o. action_by o (may_again s before r.urb) r.status (moved_in s r)) owned ∙ says) (handled_at s [] before r behind handled));
       }
 
       zero : IsFromZero left_before → (moved_in s r).from ≡ 0
-      zero left = ap (λ (t : Transfer). t.from) moved_is ∙ begins_at_first s h doings rounds run before r behind parts left
+      zero left = ap (λ (t : Transfer). t.from) moved_is ∙ begins_at_first s h call_records rounds run before r behind parts left
 
       next_of : (last : Option Giveback) → IsKnown last → IsLeft s last left_before → IsNext last r
       next_of None is left = zero left
@@ -227,7 +227,7 @@ module _ (s : Scene) where
         where
           sent_on : p.outcome ≡ outcome.Again Zero → left_before ≡ Some (resent s p) → IsMovedOn (asked_by p) (moved_in s p) (moved_in s r)
           sent_on did left =
-              let sent = subst (IsMovedOn (asked_by p) (moved_in s p)) (sym (sent_as s h doings rounds run before r behind parts (resent s p) left)) (is did) in
+              let sent = subst (IsMovedOn (asked_by p) (moved_in s p)) (sym (sent_as s h call_records rounds run before r behind parts (resent s p) left)) (is did) in
               subst (IsMovedOn (asked_by p) (moved_in s p)) (sym moved_is) (any_count (asked_by p) (moved_in s p) r.sent (min r.sent.len (shape.max * acks r.replies)) sent)
 
           go : (o : Outcome) → p.outcome ≡ o → Leaves s p o left_before → NextBy p o r
@@ -241,7 +241,7 @@ module _ (s : Scene) where
 
     linked : (before behind : List Giveback) → rounds ≡ before ++ behind → (last : Option Giveback) → IsKnown last → IsLeft s last (left_by before) → AreLinked last (mine u behind)
     linked before [] parts last is left =
-        let none : left_by before ≡ None = ap left_by (sym (append-nil before)) ∙ (ap left_by (sym parts) ∙ none_left s h doings rounds run u) in
+        let none : left_by before ≡ None = ap left_by (sym (append-nil before)) ∙ (ap left_by (sym parts) ∙ none_left s h call_records rounds run u) in
         none_out last (subst (IsLeft s last) none left)
     linked before (r ∷ behind) parts last is left =
         let more : rounds ≡ (before ++ r ∷ []) ++ behind = parts ∙ sym (append_assoc before (r ∷ []) behind) in
@@ -253,9 +253,9 @@ module _ (s : Scene) where
         ))
         (λ other. linked (before ++ r ∷ []) behind more last is (subst (IsLeft s last) (sym (carried_on s u before r)) (left_other s u r last (left_by before) other left)))
 
-  pub are_jobs : (h : List Entry) (doings : List Doing) (rounds : List Giveback) → IsRun s h doings rounds → (u : ℕ) → IsForWrites s u
+  pub are_jobs : (h : List Entry) (call_records : List CallRecord) (rounds : List Giveback) → IsRun s h call_records rounds → (u : ℕ) → IsForWrites s u
       → (jobs : List (List Giveback)) × (filter (λ r. eqb r.urb u) rounds ≡ flat_map (λ (l : List Giveback). l) jobs) × (All (IsPrinted s) jobs)
-  are_jobs h doings rounds run u writer = go (mine u rounds) (linked h doings rounds run u writer [] rounds refl None tt tt)
+  are_jobs h call_records rounds run u writer = go (mine u rounds) (linked h call_records rounds run u writer [] rounds refl None tt tt)
     where
       go : (l : List Giveback) → AreLinked None l → (jobs : List (List Giveback)) × (l ≡ flat_map (λ (l : List Giveback). l) jobs) × (All (IsPrinted s) jobs)
       go [] linked = ([], refl, All-nil (IsPrinted s))

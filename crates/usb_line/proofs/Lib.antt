@@ -39,7 +39,7 @@ pub mod Turns
 pub mod Waits
 pub mod Each
 pub mod Held
-pub mod Deeds
+pub mod HostCalls
 pub mod Effects
 pub mod Passes
 pub mod ReadsFollow
@@ -59,7 +59,7 @@ pub mod Showing
 pub mod Awake
 pub mod Opening
 pub mod Numbered
-pub mod Asking
+pub mod Question
 pub mod Waiting
 pub mod Killing
 pub mod InTurn
@@ -74,7 +74,7 @@ pub mod Submitted
 pub mod Owners
 pub mod Apt
 pub mod Reading
-pub mod Inquiries
+pub mod DriverQuestions
 pub mod ExampleScenes
 mod HandlerExamples
 mod CallExamples

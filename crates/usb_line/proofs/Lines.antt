@@ -66,7 +66,7 @@ module _ (s : Scene) (good : IsWellFormed s) (f : Progress) (run : IsLineRun s f
   last = adds run.killed (flat_map (seen_quiet (main_pass s)) urbs)
 
   goes : Goes s called
-  goes = line_goes s good called run.in_line [] (append-nil (map call_of called.doings) ∙ run.all)
+  goes = line_goes s good called run.in_line [] (append-nil (map call_of called.call_records) ∙ run.all)
 
   kills : AreKilled s called urbs run.killed
   kills = closes_kill s good called (urb_count s) urbs run.killed refl run.closes goes.serves
@@ -140,14 +140,14 @@ module _ (s : Scene) (good : IsWellFormed s) (f : Progress) (run : IsLineRun s f
     );
   }
 
-  is_run : IsRun s h last.doings last.rounds
+  is_run : IsRun s h last.call_records last.rounds
   is_run = record {
     legal = serves.legal;
     over = is_over;
-    told = subst (All (IsMade s)) (sym made.doings) goes.told;
-    downs = subst (AreDowns s false) (sym made.doings) goes.downs;
-    calls = λ i thread at. calls_made s last.doings (ap (map call_of) made.doings ∙ run.all) i thread at;
-    threads = λ i l. made.elsewhere (pass_of s i) (not_server s i) (not_main s i l) ∙ (goes.threads i l ∙ ap (λ ds. flat_map (call_entries s) (done_by i ds)) (sym made.doings));
+    told = subst (All (IsMade s)) (sym made.call_records) goes.told;
+    downs = subst (AreDowns s false) (sym made.call_records) goes.downs;
+    calls = λ i thread at. calls_made s last.call_records (ap (map call_of) made.call_records ∙ run.all) i thread at;
+    threads = λ i l. made.elsewhere (pass_of s i) (not_server s i) (not_main s i l) ∙ (goes.threads i l ∙ ap (λ ds. flat_map (call_entries s) (done_by i ds)) (sym made.call_records));
     framed = is_framed;
     server = serves.server;
     others = λ p off main none. made.elsewhere p off main ∙ goes.others p off main none;
@@ -159,5 +159,5 @@ module _ (s : Scene) (good : IsWellFormed s) (f : Progress) (run : IsLineRun s f
   }
 
   -- the run in line order through all calls, with its close, is a run of the scene
-  pub line_is_run : IsRun s f.history f.doings f.rounds
-  line_is_run = subst (λ (g : Progress). IsRun s g.history g.doings g.rounds) (sym run.seen) is_run
+  pub line_is_run : IsRun s f.history f.call_records f.rounds
+  line_is_run = subst (λ (g : Progress). IsRun s g.history g.call_records g.rounds) (sym run.seen) is_run

@@ -12,8 +12,8 @@ use Rattle.usb_scene.specs.declared.scene.Scene.{Scene}
 use Rattle.usb_scene.specs.declared.scene.Call.{Call}
 use Rattle.usb_prepare.specs.Ends.{ends_of}
 use Rattle.usb_line.specs.Prepared.{pass_of, main_pass}
-use Rattle.usb_line.specs.Run.{urbs_of, Doing, Giveback, giveback_entries, call_entries}
-use Rattle.usb_line.specs.Line.{Progress, begun, adds, takes_below, with_takes, round_of, replies_had, had_after, killing, Gives, unlinked, ended, GivesBack, none, one, IsIdle, woken, StaysLoud, begins, goes_on, WaitsFor, already, turns, ClaimsEach, doing, with_doing, all_flagged, shut_marks, shutting, Makes, at_once, served, killed, poisoned, shut_down, IsLine, start, call, Closes}
+use Rattle.usb_line.specs.Run.{urbs_of, CallRecord, Giveback, giveback_entries, call_entries}
+use Rattle.usb_line.specs.Line.{Progress, begun, adds, takes_below, with_takes, round_of, replies_had, had_after, killing, Gives, unlinked, ended, GivesBack, none, one, IsIdle, woken, StaysLoud, begins, goes_on, WaitsFor, already, turns, ClaimsEach, call_record, with_call_record, all_flagged, shut_marks, shutting, Makes, at_once, served, killed, poisoned, shut_down, IsLine, start, call, Closes}
 use Rattle.usb_line.proofs.Turns.{passed}
 
 -- a history that another begins
@@ -63,8 +63,8 @@ module _ (s : Scene) where
       let xs : List Entry = claim_entries p u (state_of k.history u).rest in
       longer_on f m (adds k xs) (claims_longer p f us rests m before) (longer_on m k (adds k xs) (wait_longer u m k waits) (longer_by k xs))
 
-  makes_longer : (f : Progress) (i : ℕ) (c : Call) (d : Doing) (m : Progress) → Makes s f i c d m → IsLonger f m
-  makes_longer f i c _ _ (at_once answer e) = longer_by f (call_entries s (doing f i c answer [] []))
+  makes_longer : (f : Progress) (i : ℕ) (c : Call) (d : CallRecord) (m : Progress) → Makes s f i c d m → IsLonger f m
+  makes_longer f i c _ _ (at_once answer e) = longer_by f (call_entries s (call_record f i c answer [] []))
   makes_longer f i c _ e (served m _ is gave idle) = let a = gives_back_longer (woken f) m gave in longer_on f m e (a.0, a.1) (idle_longer m e idle)
   makes_longer f i c _ _ (killed u m is waits) = kill_longer (pass_of s i) u f m (claim_entries (pass_of s i) u (state_of m.history u).rest ++ unblock_entries (pass_of s i) u) waits
   makes_longer f i c _ _ (poisoned u m is waits) = kill_longer (pass_of s i) u f m (claim_entries (pass_of s i) u (state_of m.history u).rest) waits
@@ -77,7 +77,7 @@ module _ (s : Scene) where
   -- the run goes on from the drivers' reads
   pub line_longer : (f : Progress) → IsLine s f → IsLonger (begun s) f
   line_longer _ start = longer_none (begun s)
-  line_longer _ (call f m i c d line near makes) = let a = makes_longer f i c d m makes in longer_on (begun s) f (with_doing s m d) (line_longer f line) (a.0, a.1)
+  line_longer _ (call f m i c d line near makes) = let a = makes_longer f i c d m makes in longer_on (begun s) f (with_call_record s m d) (line_longer f line) (a.0, a.1)
 
   pub closes_longer : (f : Progress) (us : List ℕ) (m : Progress) → Closes s f us m → IsLonger f m
   closes_longer f _ _ none = longer_none f

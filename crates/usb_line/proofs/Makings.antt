@@ -30,18 +30,18 @@ pub record IsMadeBy (s : Scene) (f : Progress) (p : ℕ) (xs : List Entry) (m : 
   pub serves : Serves s m
   pub own : part_of m.history p ≡ part_of f.history p ++ xs
   pub elsewhere : (q : ℕ) → q ≢ SERVER → q ≢ p → part_of m.history q ≡ part_of f.history q
-  pub doings : m.doings ≡ f.doings
+  pub call_records : m.call_records ≡ f.call_records
   pub down : m.down ≡ f.down
 
 pub made_none : (s : Scene) (f : Progress) (p : ℕ) → Serves s f → IsMadeBy s f p [] f
-made_none s f p old = record { serves = old; own = sym (append-nil (part_of f.history p)); elsewhere = λ q off other. refl; doings = refl; down = refl }
+made_none s f p old = record { serves = old; own = sym (append-nil (part_of f.history p)); elsewhere = λ q off other. refl; call_records = refl; down = refl }
 
 pub made_entries : (s : Scene) (f : Progress) (p : ℕ) (xs : List Entry) → p ≢ SERVER → AreOf p xs → AllFollow (machine_of s) f.history xs → AreBare s xs → Serves s f → IsMadeBy s f p xs (adds f xs)
 made_entries s f p xs off are follow bare old = record {
   serves = others_serve s f p xs off are follow bare old;
   own = grows p f.history xs are;
   elsewhere = λ q not_server other. stays p f.history xs are q (λ i. other (sym i));
-  doings = refl;
+  call_records = refl;
   down = refl;
 }
 
@@ -50,7 +50,7 @@ made_on s f m k p xs ys a b = record {
   serves = b.serves;
   own = b.own ∙ (ap (λ l. l ++ ys) a.own ∙ append_assoc (part_of f.history p) xs ys);
   elsewhere = λ q off other. b.elsewhere q off other ∙ a.elsewhere q off other;
-  doings = b.doings ∙ a.doings;
+  call_records = b.call_records ∙ a.call_records;
   down = b.down ∙ a.down;
 }
 
@@ -59,7 +59,7 @@ made_turned s f m k p xs off a serves t = record {
   serves = serves;
   own = t.parts p off ∙ a.own;
   elsewhere = λ q not_server other. t.parts q not_server ∙ a.elsewhere q not_server other;
-  doings = t.doings ∙ a.doings;
+  call_records = t.call_records ∙ a.call_records;
   down = t.down ∙ a.down;
 }
 

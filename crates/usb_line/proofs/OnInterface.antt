@@ -24,8 +24,8 @@ use Rattle.usb_bind.specs.declared.bound.Bound.{Bound}
 use Rattle.usb_bind.specs.Board.{urb_of_role}
 use Rattle.usb_prepare.proofs.Facts.{bound_near, bound_home_ctl, urb_once}
 use Rattle.usb_line.specs.declared.owner.Owner.{Owner}
-use Rattle.usb_line.specs.declared.made.Deed.TheVariants as deed
-use Rattle.usb_line.specs.Prepared.{owner_of, fresh, submit_fault, setup_by, called_urb, deed_on, deed_on_any, deed_called, deed_by, deed_of}
+use Rattle.usb_line.specs.declared.made.HostCall.TheVariants as host_call
+use Rattle.usb_line.specs.Prepared.{owner_of, fresh, submit_fault, setup_by, called_urb, host_call_on, host_call_on_any, host_call_called, host_call_by, host_call_of}
 use Rattle.usb_line.specs.Between.{IsBare}
 use Rattle.usb_line.specs.Shows.{IsApt}
 use Rattle.usb_line.proofs.Owners.{owner_bound}
@@ -93,11 +93,11 @@ module _ (s : Scene) (good : IsWellFormed s) (u : ℕ) (c : Call) where
     called_apt = interface_apt called.purpose refl (subst (IsRequest called.purpose) (sym setup_is) (call_request c.code called.binding.driver called.purpose i c.numbers c.bytes called.for))
 
   -- a call on an URB submits it where its number is that of a submit
-  submits : (code v : ℕ) → deed_on code v ≡ deed.Submit u → (code ≡ 1) × (v ≡ u)
+  submits : (code v : ℕ) → host_call_on code v ≡ host_call.Submit u → (code ≡ 1) × (v ≡ u)
   submits code v e = go (eqb code 1) refl (eqb code 2) (eqb code 3) (eqb code 4) (eqb code 5) (eqb code 6) (eqb code 7) e
     where
       go : (a : Bool) → eqb code 1 ≡ a → (b c d e f g : Bool)
-          → cond a (deed.Submit v) (cond b (deed.Unlink v) (cond c (deed.Kill v) (cond d (deed.Poison v) (cond e (deed.Unpoison v) (cond f (deed.Block v) (cond g (deed.Unblock v) deed.Other)))))) ≡ deed.Submit u
+          → cond a (host_call.Submit v) (cond b (host_call.Unlink v) (cond c (host_call.Kill v) (cond d (host_call.Poison v) (cond e (host_call.Unpoison v) (cond f (host_call.Block v) (cond g (host_call.Unblock v) host_call.Other)))))) ≡ host_call.Submit u
           → (code ≡ 1) × (v ≡ u)
       go true is b c d e f g x = (eqb-true code 1 is, (let same : v ≡ u = cc in same))
       go false is true c d e f g x = cc
@@ -108,21 +108,21 @@ module _ (s : Scene) (good : IsWellFormed s) (u : ℕ) (c : Call) where
       go false is false false false false false true x = cc
       go false is false false false false false false x = cc
 
-  called : (o : Option ℕ) → deed_called o ≡ deed.Submit u → o ≡ Some u
+  called : (o : Option ℕ) → host_call_called o ≡ host_call.Submit u → o ≡ Some u
   called None e = cc
   called (Some v) e = let same : v ≡ u = cc in ap Some same
 
-  by_target : (t : Target) → c.target ≡ t → IsBuilt s c.code t → deed_by s c.code t ≡ deed.Submit u → submit_fault s u c ≡ None → IsApt s u (fresh s u c)
+  by_target : (t : Target) → c.target ≡ t → IsBuilt s c.code t → host_call_by s c.code t ≡ host_call.Submit u → submit_fault s u c ≡ None → IsApt s u (fresh s u c)
   by_target target.Nothing aims is e none = absurd (nothing c.code is e)
     where
-      nothing : (code : ℕ) → IsBuilt s code target.Nothing → deed_by s code target.Nothing ≡ deed.Submit u → ⊥
-      nothing code (inl a) e = let x : deed_by s 8 target.Nothing ≡ deed.Submit u = subst (λ k. deed_by s k target.Nothing ≡ deed.Submit u) a e in cc
-      nothing code (inr (inl a)) e = let x : deed_by s 21 target.Nothing ≡ deed.Submit u = subst (λ k. deed_by s k target.Nothing ≡ deed.Submit u) a e in cc
-      nothing code (inr (inr a)) e = let x : deed_by s 22 target.Nothing ≡ deed.Submit u = subst (λ k. deed_by s k target.Nothing ≡ deed.Submit u) a e in cc
+      nothing : (code : ℕ) → IsBuilt s code target.Nothing → host_call_by s code target.Nothing ≡ host_call.Submit u → ⊥
+      nothing code (inl a) e = let x : host_call_by s 8 target.Nothing ≡ host_call.Submit u = subst (λ k. host_call_by s k target.Nothing ≡ host_call.Submit u) a e in cc
+      nothing code (inr (inl a)) e = let x : host_call_by s 21 target.Nothing ≡ host_call.Submit u = subst (λ k. host_call_by s k target.Nothing ≡ host_call.Submit u) a e in cc
+      nothing code (inr (inr a)) e = let x : host_call_by s 22 target.Nothing ≡ host_call.Submit u = subst (λ k. host_call_by s k target.Nothing ≡ host_call.Submit u) a e in cc
   by_target (target.Urb v) aims is e none = own_apt s good u (subst (λ w. w < length s.urbs) (submits c.code v e).1 is.2) (fresh s u c)
   by_target (target.Role d i r) aims is e none = go (role_urb s d i r) e
     where
-      go : (o : Option ℕ) → deed_on_any c.code o ≡ deed.Submit u → IsApt s u (fresh s u c)
+      go : (o : Option ℕ) → host_call_on_any c.code o ≡ host_call.Submit u → IsApt s u (fresh s u c)
       go None e = cc
       go (Some v) e = let one = (submits c.code v e).0 in let low = is.0 in absurd (omega arith)
   by_target (target.Interface d i) aims is e none = called_apt d i aims (called_by s c.code d i u (called (called_urb s c.code d i) e)) none
@@ -130,5 +130,5 @@ module _ (s : Scene) (good : IsWellFormed s) (u : ℕ) (c : Call) where
   by_target (target.Device d) aims is e none = absurd is
 
   -- what a call submits, its URB may have
-  pub fresh_apt : IsCall s c → deed_of s c ≡ deed.Submit u → submit_fault s u c ≡ None → IsApt s u (fresh s u c)
+  pub fresh_apt : IsCall s c → host_call_of s c ≡ host_call.Submit u → submit_fault s u c ≡ None → IsApt s u (fresh s u c)
   fresh_apt is e none = by_target c.target refl is.built e none

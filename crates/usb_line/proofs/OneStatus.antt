@@ -28,7 +28,7 @@ use Rattle.usb_machine.proofs.Prefixes.{legal_before, follows_before}
 use Rattle.usb_machine.proofs.Rooms.{pending_is_queued}
 use Rattle.usb_scene.specs.declared.scene.Scene.{Scene}
 use Rattle.usb_line.specs.Prepared.{machine_of}
-use Rattle.usb_line.specs.Run.{Doing, Giveback, IsRun, IsGiveback, episode_of}
+use Rattle.usb_line.specs.Run.{CallRecord, Giveback, IsRun, IsGiveback, episode_of}
 use Rattle.usb_line.specs.RunLaws.{IsGivenBack, is_ending, first_ending, HasStatusBy}
 use Rattle.usb_line.proofs.FinishedFlags.{finished_of, flag_of, flags_after, is_finished, finished_is_marked, run_flags}
 
@@ -314,7 +314,7 @@ nth_all P [] k x all is = cc
 nth_all P (y ∷ xs) zero x all is = let same : y ≡ x = cc in subst P same (All-head P y xs all)
 nth_all P (y ∷ xs) (suc k) x all is = nth_all P xs k x (All-tail P y xs all) is
 
-module _ (s : Scene) (h : List Entry) (doings : List Doing) (rounds : List Giveback) (run : IsRun s h doings rounds) (k : ℕ) (r : Giveback) (is : slice_get rounds k ≡ Some r) where
+module _ (s : Scene) (h : List Entry) (call_records : List CallRecord) (rounds : List Giveback) (run : IsRun s h call_records rounds) (k : ℕ) (r : Giveback) (is : slice_get rounds k ≡ Some r) where
   abbrev pub g : Machine
   g = machine_of s
 
@@ -363,7 +363,7 @@ module _ (s : Scene) (h : List Entry) (doings : List Doing) (rounds : List Giveb
 
   by_itself : r.finished ≡ is_finished (mark_by (first_ending r.urb out.between))
   by_itself = let flag : Some r.finished ≡ Some (finished_of at.pre r.urb) =
-      sym (nth_map (λ (r : Giveback). r.finished) rounds k r is) ∙ (ap (λ l. slice_get l k) (sym (run_flags s h doings rounds run)) ∙ at.flag) in
+      sym (nth_map (λ (r : Giveback). r.finished) rounds k r is) ∙ (ap (λ l. slice_get l k) (sym (run_flags s h call_records rounds run)) ∙ at.flag) in
       let same : r.finished ≡ finished_of at.pre r.urb = cc in
       same ∙ (sym (finished_is_marked g r.urb at.pre legal) ∙ ap is_finished mark)
 

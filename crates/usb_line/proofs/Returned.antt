@@ -24,25 +24,25 @@ use Rattle.usb_scene.specs.WellFormed.{IsWellFormed}
 use Rattle.usb_line.specs.declared.owner.Owner.{Owner}
 use Rattle.usb_line.specs.declared.made.Outcome.{Outcome}
 use Rattle.usb_line.specs.declared.made.Outcome.TheVariants as outcome
-use Rattle.usb_line.specs.declared.giveback.Inquiry.{Inquiry}
+use Rattle.usb_line.specs.declared.giveback.PosedQuestion.{PosedQuestion}
 use Rattle.usb_line.specs.declared.run.UrbRow.{UrbRow}
 use Rattle.usb_line.specs.declared.run.EndRow.{EndRow}
 use Rattle.usb_line.specs.declared.run.LineRun.{LineRun}
 use Rattle.usb_prepare.specs.Ends.{shape_at}
 use Rattle.usb_prepare.specs.Layout.{home}
-use Rattle.usb_line.specs.Prepared.{machine_of, owner_of, again_of, Asking, asking_of}
+use Rattle.usb_line.specs.Prepared.{machine_of, owner_of, again_of, Question, question_at}
 use Rattle.usb_line.specs.Run.{Giveback, moved_in, action_by, is_accepted, may_again, question_out, asks_or_rests, given_entries, giveback_entries, times_back}
 use Rattle.usb_line.specs.Line.{Progress, outcome_by, round_of, given_back}
-use Rattle.usb_line.specs.Given.{given_of, brought_bytes, sent_bytes}
+use Rattle.usb_line.specs.GivebackRow.{giveback_row, brought_bytes, sent_bytes}
 use Rattle.usb_line.specs.Shows.{IsApt, HoldsTransfer, ShowsDevices, ShowsUrb, Shows, rank, behind, turns_left}
-use Rattle.usb_line.specs.Back.{Adds, MayGive, CanPoseAny, is_again, row_back, GaveBack, given_after, Noted, InquiryBy, SettledBy, Settled, IsPosedBy}
+use Rattle.usb_line.specs.Back.{Adds, MayGive, CanPoseAny, is_again, row_back, GaveBack, given_after, Noted, QuestionBy, SettledBy, Settled, IsPosedBy}
 use Rattle.usb_line.specs.Turned.{SameElse}
 use Rattle.usb_line.proofs.Moves.{moved_same}
 use Rattle.usb_line.proofs.Homes.{some_at}
 use Rattle.usb_line.proofs.Cores.{row_asks}
-use Rattle.usb_line.proofs.Asking.{asking_apt, asking_weighs}
+use Rattle.usb_line.proofs.Question.{asking_apt, asking_weighs}
 use Rattle.usb_line.proofs.Givebacks.{IsApart, posed, IsPut, put, accepted_idle}
-use Rattle.usb_line.proofs.Inquiries.{IsInquired, IsSeen, noted_action, noted_cores, inquired_none, inquired_some}
+use Rattle.usb_line.proofs.DriverQuestions.{IsQuestionPosed, IsSeen, noted_action, noted_cores, posed_none, posed_some}
 use Rattle.usb_line.proofs.Resending.{resent_action, resent_apt}
 use Rattle.usb_line.proofs.Backs.{again_by, urb_own, urb_else, urb_posed, end_own, shows_back}
 use Rattle.usb_line.proofs.Falling.{all_left, falls_own, falls_resting, falls_spent, falls_behind, falls_asked, again_narrows, job_narrows}
@@ -60,7 +60,7 @@ noted_as old old_as new o o_as may status status_as t t_as action a b c d noted 
     (subst (λ (x : Code). Noted old new o may x t_as action) c (subst (λ (x : Transfer). Noted old new o may status x action) d noted)))
 
 -- a handler submits again where its action says so
-again_as : (s : Scene) (h : List Entry) (u : ℕ) (asking : Option Asking) (out : Bool) (act : Action) → is_again (outcome_by s h u asking (asks_or_rests asking out act)) ≡ goes_again act
+again_as : (s : Scene) (h : List Entry) (u : ℕ) (asking : Option Question) (out : Bool) (act : Action) → is_again (outcome_by s h u asking (asks_or_rests asking out act)) ≡ goes_again act
 again_as s h u None true action.Rest = refl
 again_as s h u None false action.Rest = refl
 again_as s h u (Some a) true action.Rest = refl
@@ -137,41 +137,41 @@ module _ (s : Scene) (good : IsWellFormed s) (f : Progress) (run : LineRun) (old
     noted = noted_as mid.cores.items run.cores.items back.decided.cores.items back.row.owner (owner_of s u) may_more back.status status now (moved_in s r) back.action
         (λ i. (mid_same.cores i).items) row_owner given.0 is back.noted
 
-    asked : InquiryBy back.decided back.asking (owner_of s u) back.action back.inquiry
-    asked = subst (λ o. InquiryBy back.decided back.asking o back.action back.inquiry) row_owner back.asked
+    asked : QuestionBy back.decided back.asking (owner_of s u) back.action back.posed_question
+    asked = subst (λ o. QuestionBy back.decided back.asking o back.action back.posed_question) row_owner back.asked
 
     may_same : may_again s f.rounds u ≡ may_more
     may_same = more_left (again_of s u) (times_back u f.rounds) ∙ ap (nat_lt 0) (sym row_again)
 
-    acts_so : back.action ≡ action_by (owner_of s u) may_more status (moved_in s r) → r.outcome ≡ outcome_by s given_h u (asking_of s u) (asks_or_rests (asking_of s u) (question_out s f.rounds (owner_of s u)) back.action)
-    acts_so acts = ap (λ act. outcome_by s given_h u (asking_of s u) (asks_or_rests (asking_of s u) (question_out s f.rounds (owner_of s u)) act))
+    acts_so : back.action ≡ action_by (owner_of s u) may_more status (moved_in s r) → r.outcome ≡ outcome_by s given_h u (question_at s u) (asks_or_rests (question_at s u) (question_out s f.rounds (owner_of s u)) back.action)
+    acts_so acts = ap (λ act. outcome_by s given_h u (question_at s u) (asks_or_rests (question_at s u) (question_out s f.rounds (owner_of s u)) act))
         (ap (λ b. action_by (owner_of s u) b status (moved_in s r)) may_same ∙ sym acts)
 
-    decided : (back.action ≡ action_by (owner_of s u) may_more status (moved_in s r)) × IsInquired s f.rounds r back.asking back.inquiry
+    decided : (back.action ≡ action_by (owner_of s u) may_more status (moved_in s r)) × IsQuestionPosed s f.rounds r back.asking back.posed_question
     decided = go (owner_of s u) refl
       where
-        go : (o : Option Owner) → owner_of s u ≡ o → (back.action ≡ action_by (owner_of s u) may_more status (moved_in s r)) × IsInquired s f.rounds r back.asking back.inquiry
+        go : (o : Option Owner) → owner_of s u ≡ o → (back.action ≡ action_by (owner_of s u) may_more status (moved_in s r)) × IsQuestionPosed s f.rounds r back.asking back.posed_question
         go None e =
             let n = subst (λ o. Noted run.cores.items back.decided.cores.items o may_more status (moved_in s r) back.action) e noted in
             let acts = n.0 ∙ ap (λ o. action_by o may_more status (moved_in s r)) (sym e) in (
               acts,
-              inquired_none s f.rounds r given_h run.cores.items back.decided back.asking back.inquiry may_more back.action e old.cores n.1 n.0
-                  (subst (λ o. InquiryBy back.decided back.asking o back.action back.inquiry) e asked) (acts_so acts),
+              posed_none s f.rounds r given_h run.cores.items back.decided back.asking back.posed_question may_more back.action e old.cores n.1 n.0
+                  (subst (λ o. QuestionBy back.decided back.asking o back.action back.posed_question) e asked) (acts_so acts),
             )
         go (Some o) e =
             let n = subst (λ x. Noted run.cores.items back.decided.cores.items x may_more status (moved_in s r) back.action) e noted in
             let own = noted_action s f.rounds r o e run.cores.items back.decided.cores.items old.cores may_more back.action n in
             let acts = own ∙ ap (λ o. action_by o may_more status (moved_in s r)) (sym e) in (
               acts,
-              inquired_some s f.rounds r given_h o e back.decided back.asking back.inquiry back.action own
+              posed_some s f.rounds r given_h o e back.decided back.asking back.posed_question back.action own
                   (noted_cores s f.rounds r o e run.cores.items back.decided.cores.items old.cores may_more back.action n)
-                  (acts_so acts ∙ ap (λ x. outcome_by s given_h u (asking_of s u) (asks_or_rests (asking_of s u) (question_out s f.rounds x) back.action)) e)
+                  (acts_so acts ∙ ap (λ x. outcome_by s given_h u (question_at s u) (asks_or_rests (question_at s u) (question_out s f.rounds x) back.action)) e)
                   (λ urb ctl. seen urb (ap (option_and_then (λ (o : Owner). o.ctl)) e ∙ ctl))
-                  (subst (λ o. InquiryBy back.decided back.asking o back.action back.inquiry) e asked),
+                  (subst (λ o. QuestionBy back.decided back.asking o back.action back.posed_question) e asked),
             )
 
     acts : is_again r.outcome ≡ goes_again back.action
-    acts = ap is_again (acts_so decided.0) ∙ again_as s given_h u (asking_of s u) (question_out s f.rounds (owner_of s u)) back.action
+    acts = ap is_again (acts_so decided.0) ∙ again_as s given_h u (question_at s u) (question_out s f.rounds (owner_of s u)) back.action
 
     goes : is_again r.outcome ≡ true → back.action ≡ again_by s f r
     goes again = decided.0 ∙ resent_action (owner_of s u) may_more status (moved_in s r) (ap goes_again (sym decided.0) ∙ (sym acts ∙ again))
@@ -179,17 +179,17 @@ module _ (s : Scene) (good : IsWellFormed s) (f : Progress) (run : LineRun) (old
     done : (back.did ≡ r.outcome) × Stands back.acted.plain (machine_of s) (f.history ++ giveback_entries s r)
     done = back.handled s f.history r given.1 may.can may.at (sym (ap (λ (t : Transfer). t.number) is ∙ (moved_same (shape_at s (home s u)) start replies).number)) acts decided.1.posed
 
-    settled : Settled back.acted new back.inquiry r.outcome
-    settled = subst (Settled back.acted new back.inquiry) done.0 back.settled
+    settled : Settled back.acted new back.posed_question r.outcome
+    settled = subst (Settled back.acted new back.posed_question) done.0 back.settled
 
     rows : back.acted.urbs.items ≡ slice_set run.urbs.items u (row_back back.did back.action now back.row)
     rows = back.rows ∙ (ap (λ xs. slice_set xs u (row_back back.did back.action now back.row)) mid_rows ∙ set_twice run.urbs.items u (record row { transfer = None }) (row_back back.did back.action now back.row))
 
-    -- settling an inquiry changes rows and cores alone
+    -- settling an posed_question changes rows and cores alone
     settled_so : new ≡ record back.acted { urbs = new.urbs; cores = new.cores }
-    settled_so = go back.inquiry settled
+    settled_so = go back.posed_question settled
       where
-        go : (q : Option Inquiry) → Settled back.acted new q r.outcome → new ≡ record back.acted { urbs = new.urbs; cores = new.cores }
+        go : (q : Option PosedQuestion) → Settled back.acted new q r.outcome → new ≡ record back.acted { urbs = new.urbs; cores = new.cores }
         go None is = (λ i. record (is i) { urbs = new.urbs; cores = new.cores })
         go (Some q) is = is.1
 
@@ -199,13 +199,13 @@ module _ (s : Scene) (good : IsWellFormed s) (f : Progress) (run : LineRun) (old
     shape : back.end.shape ≡ shape_at s (home s u)
     shape = ap (λ (x : EndRow). x.shape) mid_end ∙ (old.each_end (home s u) end there).is
 
-    told : new.given ≡ run.given ++ given_of s r ∷ []
+    told : new.given ≡ run.given ++ giveback_row s r ∷ []
     told = (λ i. (settled_so i).given) ∙ (back.told ∙ (λ i. mid_same.told i ++ record { urb = u; status = given.0 i; actual = (is i).actual; outcome = done.0 i; bytes = brought_bytes (shape i) (is i) } ∷ []))
 
     same_devices : new.devices ≡ mid.devices
     same_devices = (λ i. (settled_so i).devices) ∙ back.same_devices
 
-    pose : CanPoseAny s u (asking_of s u)
+    pose : CanPoseAny s u (question_at s u)
     pose = may.can.asks
 
     -- the rows as the handler left them
@@ -222,27 +222,27 @@ module _ (s : Scene) (good : IsWellFormed s) (f : Progress) (run : LineRun) (old
 
       -- and as they are, with the transfer of a question that was accepted
       new_row : (v : ℕ) (x : UrbRow) → slice_get new.urbs.items v ≡ Some x → ShowsUrb s (given_back s f r) v x
-      new_row v x at = go back.inquiry refl settled r.outcome refl
+      new_row v x at = go back.posed_question refl settled r.outcome refl
         where
-          unposed : (q : Option Inquiry) → back.inquiry ≡ q → is_accepted r.outcome ≡ false → new.urbs.items ≡ back.acted.urbs.items → ShowsUrb s (given_back s f r) v x
-          unposed q e none same = acted_row v x (subst (λ b. IsApart v (cond b (asking_of s u) None)) (sym none) tt) (ap (λ l. slice_get l v) (sym same) ∙ at)
+          unposed : (q : Option PosedQuestion) → back.posed_question ≡ q → is_accepted r.outcome ≡ false → new.urbs.items ≡ back.acted.urbs.items → ShowsUrb s (given_back s f r) v x
+          unposed q e none same = acted_row v x (subst (λ b. IsApart v (cond b (question_at s u) None)) (sym none) tt) (ap (λ l. slice_get l v) (sym same) ∙ at)
 
-          none_accepted : (o : Outcome) → r.outcome ≡ o → back.inquiry ≡ None → is_accepted o ≡ false
+          none_accepted : (o : Outcome) → r.outcome ≡ o → back.posed_question ≡ None → is_accepted o ≡ false
           none_accepted outcome.Rest did e = refl
           none_accepted (outcome.Again c) did e = refl
-          none_accepted (outcome.Asked c) did e = absurd (no_question (asking_of s u) (subst (λ q. IsPosedBy s (asking_of s u) (outcome.Asked c) q) e (subst (λ o. IsPosedBy s (asking_of s u) o back.inquiry) did decided.1.posed)))
+          none_accepted (outcome.Asked c) did e = absurd (no_question (question_at s u) (subst (λ q. IsPosedBy s (question_at s u) (outcome.Asked c) q) e (subst (λ o. IsPosedBy s (question_at s u) o back.posed_question) did decided.1.posed)))
             where
-              no_question : (a : Option Asking) → IsPosedBy s a (outcome.Asked c) None → ⊥
+              no_question : (a : Option Question) → IsPosedBy s a (outcome.Asked c) None → ⊥
               no_question None p = p
               no_question (Some a) p = p
 
           -- the one that was accepted
-          put_row : (q : Inquiry) → back.inquiry ≡ Some q → SettledBy back.acted new q (outcome.Asked Zero) → r.outcome ≡ outcome.Asked Zero → ShowsUrb s (given_back s f r) v x
-          put_row q e done did = with_asking (asking_of s u) refl (subst (λ y. IsPosedBy s (asking_of s u) (outcome.Asked Zero) y) e (subst (λ o. IsPosedBy s (asking_of s u) o back.inquiry) did decided.1.posed))
+          put_row : (q : PosedQuestion) → back.posed_question ≡ Some q → SettledBy back.acted new q (outcome.Asked Zero) → r.outcome ≡ outcome.Asked Zero → ShowsUrb s (given_back s f r) v x
+          put_row q e done did = with_question (question_at s u) refl (subst (λ y. IsPosedBy s (question_at s u) (outcome.Asked Zero) y) e (subst (λ o. IsPosedBy s (question_at s u) o back.posed_question) did decided.1.posed))
             where
-              with_asking : (asking : Option Asking) → asking_of s u ≡ asking → IsPosedBy s asking (outcome.Asked Zero) (Some q) → ShowsUrb s (given_back s f r) v x
-              with_asking None is p = absurd p
-              with_asking (Some a) is p =
+              with_question : (asking : Option Question) → question_at s u ≡ asking → IsPosedBy s asking (outcome.Asked Zero) (Some q) → ShowsUrb s (given_back s f r) v x
+              with_question None is p = absurd p
+              with_question (Some a) is p =
                   let posed_is : posed s r ≡ Some a = (λ i. cond (ap is_accepted did i) (is i) None) in
                   let p_ut : IsPut s f.history r a = put s f.history r pose may.can.gated a posed_is in
                   let base = done.0 in
@@ -255,13 +255,13 @@ module _ (s : Scene) (good : IsWellFormed s) (f : Progress) (run : LineRun) (old
                   go_old (inl same) p_ut = absurd (p_ut.pose.apart same.0)
                   go_old (inr off) p_ut = off.1
 
-                  at_last : (a : Asking) → asking_of s u ≡ Some a → IsPut s f.history r a → (y : UrbRow) → slice_get run.urbs.items a.urb ≡ Some y
+                  at_last : (a : Question) → question_at s u ≡ Some a → IsPut s f.history r a → (y : UrbRow) → slice_get run.urbs.items a.urb ≡ Some y
                       → ((v ≡ a.urb) × (x ≡ record y { transfer = Some a.transfer })) ⊎ ((v ≢ a.urb) × (slice_get back.acted.urbs.items v ≡ Some x)) → ShowsUrb s (given_back s f r) v x
                   at_last a is p_ut y before (inl same) = subst (λ w. ShowsUrb s (given_back s f r) w x) (sym same.0) (subst (ShowsUrb s (given_back s f r) a.urb) (sym same.1)
                       (urb_posed s f r old.stands.legal a p_ut y (asking_apt s good u a is) (old.each_urb a.urb y before)))
                   at_last a is p_ut y before (inr off) = acted_row v x (subst (IsApart v) (sym (λ i. cond (ap is_accepted p_ut.did i) (is i) None)) off.0) off.1
 
-          go : (q : Option Inquiry) → back.inquiry ≡ q → Settled back.acted new back.inquiry r.outcome → (o : Outcome) → r.outcome ≡ o → ShowsUrb s (given_back s f r) v x
+          go : (q : Option PosedQuestion) → back.posed_question ≡ q → Settled back.acted new back.posed_question r.outcome → (o : Outcome) → r.outcome ≡ o → ShowsUrb s (given_back s f r) v x
           go None e done o did = unposed None e (ap is_accepted did ∙ none_accepted o did e) (λ i. (subst (λ q. Settled back.acted new q r.outcome) e done i).urbs.items)
           go (Some q) e done (outcome.Asked Zero) did = put_row q e (subst (SettledBy back.acted new q) did (subst (λ q. Settled back.acted new q r.outcome) e done).0) did
           go (Some q) e done (outcome.Asked (Fault c)) did = unposed (Some q) e (ap is_accepted did) (λ i. ((subst (SettledBy back.acted new q) did (subst (λ q. Settled back.acted new q r.outcome) e done).0).1 i).items)
@@ -269,15 +269,15 @@ module _ (s : Scene) (good : IsWellFormed s) (f : Progress) (run : LineRun) (old
           go (Some q) e done (outcome.Again c) did = unposed (Some q) e (ap is_accepted did) (λ i. ((subst (SettledBy back.acted new q) did (subst (λ q. Settled back.acted new q r.outcome) e done).0).1 i).items)
 
       count : length new.urbs.items ≡ length run.urbs.items
-      count = go back.inquiry settled ∙ (ap (λ l. length l) rows ∙ length-set run.urbs.items u (row_back back.did back.action now back.row))
+      count = go back.posed_question settled ∙ (ap (λ l. length l) rows ∙ length-set run.urbs.items u (row_back back.did back.action now back.row))
         where
-          by_outcome : (q : Inquiry) (o : Outcome) → SettledBy back.acted new q o → length new.urbs.items ≡ length back.acted.urbs.items
+          by_outcome : (q : PosedQuestion) (o : Outcome) → SettledBy back.acted new q o → length new.urbs.items ≡ length back.acted.urbs.items
           by_outcome q (outcome.Asked Zero) is = ap (λ l. length l) is.0.2 ∙ length-set back.acted.urbs.items q.urb.0 (record is.0.0 { transfer = Some q.transfer })
           by_outcome q (outcome.Asked (Fault c)) is = (λ i. length (is.1 i).items)
           by_outcome q outcome.Rest is = (λ i. length (is.1 i).items)
           by_outcome q (outcome.Again c) is = (λ i. length (is.1 i).items)
 
-          go : (q : Option Inquiry) → Settled back.acted new q r.outcome → length new.urbs.items ≡ length back.acted.urbs.items
+          go : (q : Option PosedQuestion) → Settled back.acted new q r.outcome → length new.urbs.items ≡ length back.acted.urbs.items
           go None is = (λ i. length (is i).urbs.items)
           go (Some q) is = by_outcome q r.outcome is.0
 
@@ -359,8 +359,8 @@ module _ (s : Scene) (good : IsWellFormed s) (f : Progress) (run : LineRun) (old
         by_owner (Some o) e = driven o e
 
       -- where one was, its URB has it
-      asked_falls : (q : Inquiry) → back.inquiry ≡ Some q → SettledBy back.acted new q (outcome.Asked Zero) → r.outcome ≡ outcome.Asked Zero → turns_left new < turns_left run
-      asked_falls q e done_so did_so = with_asking (asking_of s u) refl (subst (λ y. IsPosedBy s (asking_of s u) (outcome.Asked Zero) y) e (subst (λ o. IsPosedBy s (asking_of s u) o back.inquiry) did_so decided.1.posed))
+      asked_falls : (q : PosedQuestion) → back.posed_question ≡ Some q → SettledBy back.acted new q (outcome.Asked Zero) → r.outcome ≡ outcome.Asked Zero → turns_left new < turns_left run
+      asked_falls q e done_so did_so = with_question (question_at s u) refl (subst (λ y. IsPosedBy s (question_at s u) (outcome.Asked Zero) y) e (subst (λ o. IsPosedBy s (question_at s u) o back.posed_question) did_so decided.1.posed))
         where
           idle_row : (v : ℕ) (y : UrbRow) → ShowsUrb s f v y → (state_of f.history v).queued ≡ false → y.transfer ≡ None
           idle_row v y shown idle = go y.transfer refl
@@ -369,13 +369,13 @@ module _ (s : Scene) (good : IsWellFormed s) (f : Progress) (run : LineRun) (old
               go None e = refl
               go (Some x) e = absurd (true≢false (sym (subst (HoldsTransfer s f v) e shown.holds).0 ∙ idle))
 
-          stood_before : (a : Asking) → IsPut s f.history r a → (y : UrbRow) → ((a.urb ≡ u) × (y ≡ row_back back.did back.action now back.row)) ⊎ ((a.urb ≢ u) × (slice_get run.urbs.items a.urb ≡ Some y)) → slice_get run.urbs.items a.urb ≡ Some y
+          stood_before : (a : Question) → IsPut s f.history r a → (y : UrbRow) → ((a.urb ≡ u) × (y ≡ row_back back.did back.action now back.row)) ⊎ ((a.urb ≢ u) × (slice_get run.urbs.items a.urb ≡ Some y)) → slice_get run.urbs.items a.urb ≡ Some y
           stood_before a p_ut y (inl same) = absurd (p_ut.pose.apart same.0)
           stood_before a p_ut y (inr off) = off.1
 
-          with_asking : (asking : Option Asking) → asking_of s u ≡ asking → IsPosedBy s asking (outcome.Asked Zero) (Some q) → turns_left new < turns_left run
-          with_asking None is_none p = absurd p
-          with_asking (Some a) is_some p =
+          with_question : (asking : Option Question) → question_at s u ≡ asking → IsPosedBy s asking (outcome.Asked Zero) (Some q) → turns_left new < turns_left run
+          with_question None is_none p = absurd p
+          with_question (Some a) is_some p =
               let p_ut : IsPut s f.history r a = put s f.history r pose may.can.gated a (λ i. cond (ap is_accepted did_so i) (is_some i) None) in
               let weighs = asking_weighs s good u a is_some in
               let here : slice_get back.acted.urbs.items a.urb ≡ Some done_so.0.0 = ap (slice_get back.acted.urbs.items) (sym p.urb) ∙ done_so.0.1 in
@@ -388,9 +388,9 @@ module _ (s : Scene) (good : IsWellFormed s) (f : Progress) (run : LineRun) (old
               (ap rank asked_row.owner ∙ weighs.1) weighs.2 set kept
 
       pub falls_returned : turns_left new < turns_left run
-      falls_returned = go back.inquiry refl settled r.outcome refl
+      falls_returned = go back.posed_question refl settled r.outcome refl
         where
-          go : (q : Option Inquiry) → back.inquiry ≡ q → Settled back.acted new back.inquiry r.outcome → (o : Outcome) → r.outcome ≡ o → turns_left new < turns_left run
+          go : (q : Option PosedQuestion) → back.posed_question ≡ q → Settled back.acted new back.posed_question r.outcome → (o : Outcome) → r.outcome ≡ o → turns_left new < turns_left run
           go None e so o did_so = by_owner ((λ i. (subst (λ q. Settled back.acted new q r.outcome) e so i).urbs.items) ∙ rows) (owner_of s u) refl
           go (Some q) e so (outcome.Asked Zero) did_so = asked_falls q e (subst (SettledBy back.acted new q) did_so (subst (λ q. Settled back.acted new q r.outcome) e so).0) did_so
           go (Some q) e so (outcome.Asked (Fault c)) did_so = by_owner ((λ i. ((subst (SettledBy back.acted new q) did_so (subst (λ q. Settled back.acted new q r.outcome) e so).0).1 i).items) ∙ rows) (owner_of s u) refl

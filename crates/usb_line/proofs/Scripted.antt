@@ -8,7 +8,7 @@ use Rattle.usb_scene.specs.declared.scene.Scene.{Scene}
 use Rattle.usb_scene.specs.declared.scene.SceneThread.{SceneThread}
 use Rattle.usb_scene.specs.declared.scene.Call.{Call}
 use Rattle.usb_line.specs.Prepared.{calls_from, calls_of}
-use Rattle.usb_line.specs.Run.{Doing, done_by}
+use Rattle.usb_line.specs.Run.{CallRecord, done_by}
 
 -- the calls of the thread with this number
 abbrev pub of_thread : ℕ → List (ℕ × Call) → List (ℕ × Call)
@@ -53,30 +53,30 @@ thread_calls i (suc k) n (t ∷ threads) thread e at =
     ∙ thread_calls (i + 1) k n threads thread next at)
 
 -- a call with its thread's number
-abbrev pub placed : Doing → ℕ × Call
+abbrev pub placed : CallRecord → ℕ × Call
 placed d = (d.thread, d.call)
 
 -- the calls that a thread made
-abbrev pub calls_by : ℕ → List Doing → List Call
-calls_by i doings = map (λ d. d.call) (done_by i doings)
+abbrev pub calls_by : ℕ → List CallRecord → List Call
+calls_by i call_records = map (λ d. d.call) (done_by i call_records)
 
-made_calls : (k : ℕ) (doings : List Doing) → calls_by k doings ≡ only_calls (of_thread k (map placed doings))
+made_calls : (k : ℕ) (call_records : List CallRecord) → calls_by k call_records ≡ only_calls (of_thread k (map placed call_records))
 made_calls k [] = refl
-made_calls k (d ∷ doings) = elim (eqb d.thread k) as (λ b. map (λ (d : Doing). d.call) (cond b (d ∷ done_by k doings) (done_by k doings)) ≡ only_calls (cond b (placed d ∷ of_thread k (map placed doings)) (of_thread k (map placed doings))))
-    [ true ↦ ap (λ l. d.call ∷ l) (made_calls k doings) | false ↦ made_calls k doings ]
+made_calls k (d ∷ call_records) = elim (eqb d.thread k) as (λ b. map (λ (d : CallRecord). d.call) (cond b (d ∷ done_by k call_records) (done_by k call_records)) ≡ only_calls (cond b (placed d ∷ of_thread k (map placed call_records)) (of_thread k (map placed call_records))))
+    [ true ↦ ap (λ l. d.call ∷ l) (made_calls k call_records) | false ↦ made_calls k call_records ]
 
 -- where all calls were made in line order, each thread made its own
-pub calls_made : (s : Scene) (doings : List Doing) → map placed doings ≡ calls_of s → (i : ℕ) (thread : SceneThread) → slice_get s.threads i ≡ Some thread → calls_by i doings ≡ thread.calls
-calls_made s doings all i thread at = made_calls i doings ∙ (ap (λ l. only_calls (of_thread i l)) all ∙ thread_calls 0 i i s.threads thread (omega arith) at)
+pub calls_made : (s : Scene) (call_records : List CallRecord) → map placed call_records ≡ calls_of s → (i : ℕ) (thread : SceneThread) → slice_get s.threads i ≡ Some thread → calls_by i call_records ≡ thread.calls
+calls_made s call_records all i thread at = made_calls i call_records ∙ (ap (λ l. only_calls (of_thread i l)) all ∙ thread_calls 0 i i s.threads thread (omega arith) at)
 
 -- where the calls made begin those of the scene, the next one is the next of its thread
-pub next_call : (s : Scene) (doings : List Doing) (i : ℕ) (c : Call) (rest : List (ℕ × Call)) → map placed doings ++ (i, c) ∷ rest ≡ calls_of s
-    → (thread : SceneThread) → slice_get s.threads i ≡ Some thread → thread.calls ≡ calls_by i doings ++ c ∷ only_calls (of_thread i rest)
-next_call s doings i c rest all thread at =
+pub next_call : (s : Scene) (call_records : List CallRecord) (i : ℕ) (c : Call) (rest : List (ℕ × Call)) → map placed call_records ++ (i, c) ∷ rest ≡ calls_of s
+    → (thread : SceneThread) → slice_get s.threads i ≡ Some thread → thread.calls ≡ calls_by i call_records ++ c ∷ only_calls (of_thread i rest)
+next_call s call_records i c rest all thread at =
     sym (thread_calls 0 i i s.threads thread (omega arith) at) ∙ (ap (λ l. only_calls (of_thread i l)) (sym all)
-    ∙ (ap only_calls (filter-append (λ c. eqb c.0 i) (map placed doings) ((i, c) ∷ rest))
-    ∙ (map-append (λ (c : ℕ × Call). c.1) (of_thread i (map placed doings)) (of_thread i ((i, c) ∷ rest))
-    ∙ (λ j. sym (made_calls i doings) j ++ only_calls (cond (eq-eqb i i refl j) ((i, c) ∷ of_thread i rest) (of_thread i rest))))))
+    ∙ (ap only_calls (filter-append (λ c. eqb c.0 i) (map placed call_records) ((i, c) ∷ rest))
+    ∙ (map-append (λ (c : ℕ × Call). c.1) (of_thread i (map placed call_records)) (of_thread i ((i, c) ∷ rest))
+    ∙ (λ j. sym (made_calls i call_records) j ++ only_calls (cond (eq-eqb i i refl j) ((i, c) ∷ of_thread i rest) (of_thread i rest))))))
 
 -- something that holds of each element holds of one in the midst
 pub All-middle : {X : Type 0} (P : X → Type 0) (before : List X) (x : X) (behind : List X) → All P (before ++ x ∷ behind) → P x

@@ -9,9 +9,9 @@ use Rattle.usb_scene.specs.declared.scene.Scene.{Scene}
 use Rattle.usb_line.specs.declared.run.LineRun.{LineRun}
 use Rattle.usb_prepare.specs.Ends.{shape_at}
 use Rattle.usb_prepare.specs.Layout.{home}
-use Rattle.usb_line.specs.Prepared.{machine_of, deed_of}
-use Rattle.usb_line.specs.Run.{Doing, is_first, down_after}
-use Rattle.usb_line.specs.Line.{Progress, adds, replies_had, with_doing}
+use Rattle.usb_line.specs.Prepared.{machine_of, host_call_of}
+use Rattle.usb_line.specs.Run.{CallRecord, is_first, down_after}
+use Rattle.usb_line.specs.Line.{Progress, adds, replies_had, with_call_record}
 use Rattle.usb_line.specs.Shows.{IsMoving, HoldsTransfer, Shows}
 use Rattle.usb_line.proofs.Stills.{AreStill, stills_pending, stills_sent}
 use Rattle.usb_line.proofs.Calm.{calm_still, linked_still}
@@ -60,17 +60,17 @@ module _ (s : Scene) (f : Progress) (xs : List Entry) (still : AreStill xs) wher
   }
 
 module _ (s : Scene) (f : Progress) (run : LineRun) (old : Shows s f run) where
-  holds_called : (d : Doing) (u : ℕ) (o : Option Transfer) → HoldsTransfer s f u o → HoldsTransfer s (with_doing s f d) u o
+  holds_called : (d : CallRecord) (u : ℕ) (o : Option Transfer) → HoldsTransfer s f u o → HoldsTransfer s (with_call_record s f d) u o
   holds_called d u None q = q
   holds_called d u (Some t) q = (q.0, record { apt = q.1.apt; start = q.1.start; sent = q.1.sent; moving = q.1.moving; going = q.1.going })
 
   -- a call that is counted changes no more than whether the host is down
-  pub shows_called : (d : Doing) (b : Bool) → b ≡ down_after f.down (deed_of s d.call) d.answer → Shows s (with_doing s f d) (record run { down = b })
+  pub shows_called : (d : CallRecord) (b : Bool) → b ≡ down_after f.down (host_call_of s d.call) d.answer → Shows s (with_call_record s f d) (record run { down = b })
   shows_called d b is = record {
     stands = old.stands;
     calm = old.calm;
     linked = old.linked;
-    devices = devices_same s f (with_doing s f d) run.devices.items (λ e. asked_same s f (with_doing s f d) e refl refl (old.unmoved e) (λ u others first. (others, first, refl))) old.devices;
+    devices = devices_same s f (with_call_record s f d) run.devices.items (λ e. asked_same s f (with_call_record s f d) e refl refl (old.unmoved e) (λ u others first. (others, first, refl))) old.devices;
     few_ends = old.few_ends;
     all_ends = old.all_ends;
     each_end = λ e end at. (let o = old.each_end e end at in record { is = o.is; sleeps = o.sleeps; acked = o.acked });

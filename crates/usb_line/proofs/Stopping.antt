@@ -31,7 +31,7 @@ use Rattle.usb_line.specs.declared.made.Outcome.{Outcome}
 use Rattle.usb_line.specs.declared.made.Outcome.TheVariants as outcome
 use Rattle.usb_prepare.specs.Ends.{ends_of, shape_at}
 use Rattle.usb_prepare.specs.Layout.{urb_count, home}
-use Rattle.usb_line.specs.Prepared.{machine_of, Asking, asking_of}
+use Rattle.usb_line.specs.Prepared.{machine_of, Question, question_at}
 use Rattle.usb_line.specs.Run.{urbs_of, Giveback, given_entries, giveback_entries, acts, moved_in}
 use Rattle.usb_line.specs.Line.{Progress, takes_below, with_takes, is_unlinked, marked_of, had_after, outcome_by, round_of, replies_had, Gives, unlinked, ended, IsIdle, woken, StaysLoud, begins, goes_on, WaitsFor, already, turns, killing, all_flagged, shutting}
 use Rattle.usb_line.specs.Steps.{IsStopping}
@@ -43,7 +43,7 @@ use Rattle.usb_line.specs.Between.{is_finished, IsCalm, AllLinked}
 use Rattle.usb_line.proofs.Calm.{linked_takes, linked_giveback, calm_places}
 use Rattle.usb_line.proofs.Marked.{is_marked}
 use Rattle.usb_line.proofs.Turns.{passed, outcome_gated}
-use Rattle.usb_line.proofs.Asking.{can_pose_any}
+use Rattle.usb_line.proofs.Question.{can_pose_any}
 
 module _ (u : ℕ) where
   abbrev pub Stops : List Entry → Type 0
@@ -54,9 +54,9 @@ module _ (u : ℕ) where
     r = round_of s f v status finished t replies
 
     refused_again : is_zero (refusal (record (state_of f.history v) { queued = false })) ≡ false → resubmits r.outcome ≡ false
-    refused_again shut = go (asking_of s v) (acts s f.rounds v status (moved (shape_at s (home s v)) t replies))
+    refused_again shut = go (question_at s v) (acts s f.rounds v status (moved (shape_at s (home s v)) t replies))
       where
-        go : (asking : Option Asking) (act : Action) → resubmits (outcome_by s (f.history ++ given_entries v status finished) v asking act) ≡ false
+        go : (asking : Option Question) (act : Action) → resubmits (outcome_by s (f.history ++ given_entries v status finished) v asking act) ≡ false
         go asking (action.Again from len) = ap (λ (t : UrbState). is_zero (refusal t)) (given_state v status f.history finished) ∙ shut
         go asking action.Rest = refl
         go (Some a) action.Ask = refl
@@ -74,7 +74,7 @@ module _ (u : ℕ) where
     stop_back old = dite (ℕ_discrete u v)
         (λ is. let at : IsStopping (state_of f.history v) = subst (λ (u : ℕ). IsStopping (state_of f.history u)) is old in
         subst (λ (u : ℕ). IsStopping (state_of (f.history ++ giveback_entries s r) u)) (sym is)
-        (subst IsStopping (sym (giveback_state s f.history r (apart_any s v (asking_of s v) (can_pose_any s good v)))) (go at r.outcome (refused_again at.refused))))
+        (subst IsStopping (sym (giveback_state s f.history r (apart_any s v (question_at s v) (can_pose_any s good v)))) (go at r.outcome (refused_again at.refused))))
         (λ off. subst IsStopping (sym (giveback_other s f.history r u off
         (refused_apart s f.history r (can_pose_any s good v) (outcome_gated s f v status finished (moved (shape_at s (home s v)) t replies)) u (refused_now old)))) old)
       where

@@ -16,14 +16,14 @@ use Rattle.usb_scene.specs.declared.scene.Call.{Call}
 use Rattle.usb_scene.specs.WellFormed.{IsBuffer}
 use Rattle.usb_line.specs.declared.run.UrbRow.{UrbRow}
 use Rattle.usb_line.specs.declared.run.LineRun.{LineRun}
-use Rattle.usb_line.specs.declared.made.Deed.{Deed}
-use Rattle.usb_line.specs.declared.made.Deed.TheVariants as deed
+use Rattle.usb_line.specs.declared.made.HostCall.{HostCall}
+use Rattle.usb_line.specs.declared.made.HostCall.TheVariants as host_call
 use Rattle.usb_line.specs.declared.made.CallAnswer.TheVariants as told
 use Rattle.usb_prepare.specs.Ends.{shape_at, shapes_of}
 use Rattle.usb_prepare.specs.Layout.{urb_count, home}
-use Rattle.usb_line.specs.Prepared.{machine_of, buffer_of, payload_by, fresh, submit_fault, pass_of, deed_of}
-use Rattle.usb_line.specs.Run.{submit_of, deed_entries, down_after}
-use Rattle.usb_line.specs.Line.{Progress, adds, doing, answer_now, submit_answer, at_once}
+use Rattle.usb_line.specs.Prepared.{machine_of, buffer_of, payload_by, fresh, submit_fault, pass_of, host_call_of}
+use Rattle.usb_line.specs.Run.{submit_of, host_call_entries, down_after}
+use Rattle.usb_line.specs.Line.{Progress, adds, call_record, answer_now, submit_answer, at_once}
 use Rattle.usb_line.specs.Shows.{Shows}
 use Rattle.usb_line.specs.Calls.{MayMake, Made}
 use Rattle.usb_line.specs.Sent.{said_of, sent_by, MaySend, Sent}
@@ -36,12 +36,12 @@ use Rattle.usb_prepare.proofs.Facts.{home_near}
 use Rattle.usb_line.proofs.Showing.{shows_called}
 use Rattle.usb_line.proofs.Calling.{can, there, is_there, near_plain, made_now}
 
-module _ (s : Scene) (f : Progress) (i : ℕ) (c : Call) (run : LineRun) (p u : ℕ) (may : MayMake s f i c run p (deed.Submit u)) where
+module _ (s : Scene) (f : Progress) (i : ℕ) (c : Call) (run : LineRun) (p u : ℕ) (may : MayMake s f i c run p (host_call.Submit u)) where
   pub near : u < urb_count s
-  near = is_there s f i c run p (deed.Submit u) may
+  near = is_there s f i c run p (host_call.Submit u) may
 
   pub few_bytes : IsBuffer c.bytes
-  few_bytes = (can s f i c run p (deed.Submit u) may).is.bytes
+  few_bytes = (can s f i c run p (host_call.Submit u) may).is.bytes
 
   pub row_near : u < length run.urbs.items
   row_near = subst (λ n. u < n) (sym may.shows.all_urbs) near
@@ -50,7 +50,7 @@ module _ (s : Scene) (f : Progress) (i : ℕ) (c : Call) (run : LineRun) (p u : 
   end_near row at = subst (λ n. row.home < n) (sym may.shows.all_ends) (subst (λ (e : ℕ). e < length (shapes_of s)) (sym (may.shows.each_urb u row at).at) (home_near s may.good u near))
 
   pub known : u < length run.plain.states.items
-  known = near_plain s f i c run p (deed.Submit u) may u near
+  known = near_plain s f i c run p (host_call.Submit u) may u near
 
   module _ (said : Said) (is : said_of (slice_get s.urbs u) ≡ said) where
     -- its buffer is short
@@ -67,7 +67,7 @@ module _ (s : Scene) (f : Progress) (i : ℕ) (c : Call) (run : LineRun) (p u : 
   pub made_fault : (x : Errno) → submit_fault s u c ≡ Some x → Made s f i c (told.Code (Fault x)) run
   made_fault x fault =
       let none : submit_of (submit_fault s u c) p u (fresh s u c) (Fault x) ≡ [] = ap (λ o. submit_of o p u (fresh s u c) (Fault x)) fault in
-      made_now s f i c run p (deed.Submit u) may (told.Code (Fault x)) run.plain run.down
+      made_now s f i c run p (host_call.Submit u) may (told.Code (Fault x)) run.plain run.down
       (ap (λ o. Some (told.Code (submit_answer o (refusal (state_of f.history u))))) fault)
       (subst AreStill (sym none) tt)
       (subst (λ xs. Stands run.plain (machine_of s) (f.history ++ xs)) (sym none) (subst (Stands run.plain (machine_of s)) (sym (append-nil f.history)) may.shows.stands))
@@ -77,9 +77,9 @@ module _ (s : Scene) (f : Progress) (i : ℕ) (c : Call) (run : LineRun) (p u : 
     pub may_send : MaySend s f run p u t
     may_send = record {
       shows = may.shows;
-      apt = subst (IsApt s u) (sym is) (fresh_apt s may.good u c (can s f i c run p (deed.Submit u) may).is may.does none);
+      apt = subst (IsApt s u) (sym is) (fresh_apt s may.good u c (can s f i c run p (host_call.Submit u) may).is may.does none);
       ask = record {
-        there = there s f i c run p (deed.Submit u) may;
+        there = there s f i c run p (host_call.Submit u) may;
         has = has_home s may.good u near;
         window = subst HasWindow (sym is) (fresh_window s may.good u c few_bytes);
         unmoved = ap (λ (t : Transfer). t.actual) is;
@@ -89,15 +89,15 @@ module _ (s : Scene) (f : Progress) (i : ℕ) (c : Call) (run : LineRun) (p u : 
 
     pub made_sent : (code : Code) (now : LineRun) → Sent s f p u t code now → Made s f i c (told.Code code) now
     made_sent code now sent =
-        let xs : List Entry = deed_entries s (pass_of s i) c (deed_of s c) (told.Code code) [] [] f.down in
+        let xs : List Entry = host_call_entries s (pass_of s i) c (host_call_of s c) (told.Code code) [] [] f.down in
         let same : submit_entries p u t code ≡ xs
-        = ap (λ t. submit_entries p u t code) is ∙ (ap (λ o. submit_of o p u (fresh s u c) code) (sym none) ∙ (λ j. deed_entries s (sym may.pass j) c (sym may.does j) (told.Code code) [] [] f.down)) in
+        = ap (λ t. submit_entries p u t code) is ∙ (ap (λ o. submit_of o p u (fresh s u c) code) (sym none) ∙ (λ j. host_call_entries s (sym may.pass j) c (sym may.does j) (told.Code code) [] [] f.down)) in
         let shows : Shows s (adds f xs) now = subst (λ xs. Shows s (adds f xs) now) same sent.shows in
         record {
-          did = doing f i c (told.Code code) [] [];
+          did = call_record f i c (told.Code code) [] [];
           far = adds f xs;
           makes = at_once (told.Code code) (ap (answer_now s f c) may.does
               ∙ (ap (λ o. Some (told.Code (submit_answer o (refusal (state_of f.history u))))) none ∙ ap (λ c. Some (told.Code c)) (sym sent.gate)));
           told = refl;
-          shows = shows_called s (adds f xs) now shows (doing f i c (told.Code code) [] []) now.down (shows.host ∙ ap (λ (d : Deed). down_after f.down d (told.Code code)) (sym may.does));
+          shows = shows_called s (adds f xs) now shows (call_record f i c (told.Code code) [] []) now.down (shows.host ∙ ap (λ (d : HostCall). down_after f.down d (told.Code code)) (sym may.does));
         }

@@ -10,11 +10,11 @@ use Rattle.usb_line.specs.declared.made.CallMade.{CallMade}
 use Rattle.usb_line.specs.declared.made.CallAnswer.{CallAnswer}
 use Rattle.usb_line.specs.declared.run.LineRun.{LineRun}
 use Rattle.usb_line.specs.Prepared.{calls_from, calls_of}
-use Rattle.usb_line.specs.Line.{call, with_doing}
+use Rattle.usb_line.specs.Line.{call, with_call_record}
 use Rattle.usb_line.specs.Calls.{Made, MayBeMade, IsUnderway}
 use Rattle.usb_line.specs.Outcome.{made_of}
 use Rattle.usb_line.proofs.Scripted.{placed}
-use Rattle.usb_line.proofs.Calls.{makes_doings}
+use Rattle.usb_line.proofs.Calls.{makes_call_records}
 
 calls_from-append : (n : ℕ) (xs ys : List SceneThread) → calls_from n (xs ++ ys) ≡ calls_from n xs ++ calls_from (n + length xs) ys
 calls_from-append n [] ys = ap (λ k. calls_from k ys) (sym (add-zero n))
@@ -90,13 +90,13 @@ module _ (s : Scene) (good : IsWellFormed s) (i : ℕ) (near : i < length s.thre
     pub one_made : (answer : CallAnswer) (after : LineRun) (longer : List CallMade) → Made s at.far i this answer after
         → longer ≡ made ++ made_row i this answer ∷ [] → IsUnderway s (before ++ map pair (take (k + 1) calls)) after longer
     one_made answer after longer done pushed =
-        let same = makes_doings s at.far i this done.did done.far done.makes in
+        let same = makes_call_records s at.far i this done.did done.far done.makes in
         let row : CallMade = made_row i this answer in
         let told : made_of done.did ≡ row = (λ j. record { thread = (same.0 j).0; line = (same.0 j).1.line; code = (same.0 j).1.code; target = (same.0 j).1.target; answer = done.told j }) in
         record {
-          far = with_doing s done.far done.did;
+          far = with_call_record s done.far done.did;
           in_line = call at.far done.far i this done.did at.in_line near done.makes;
-          all = map-append placed done.far.doings (done.did ∷ []) ∙ ((λ j. map placed (same.1 j) ++ same.0 j ∷ []) ∙ (ap (λ l. l ++ (i, this) ∷ []) at.all ∙ sym more));
-          told = pushed ∙ ((λ j. at.told j ++ sym told j ∷ []) ∙ (sym (map-append made_of at.far.doings (done.did ∷ [])) ∙ ap (λ ds. map made_of (ds ++ done.did ∷ [])) (sym same.1)));
+          all = map-append placed done.far.call_records (done.did ∷ []) ∙ ((λ j. map placed (same.1 j) ++ same.0 j ∷ []) ∙ (ap (λ l. l ++ (i, this) ∷ []) at.all ∙ sym more));
+          told = pushed ∙ ((λ j. at.told j ++ sym told j ∷ []) ∙ (sym (map-append made_of at.far.call_records (done.did ∷ [])) ∙ ap (λ ds. map made_of (ds ++ done.did ∷ [])) (sym same.1)));
           shows = done.shows;
         }

@@ -27,11 +27,11 @@ use Rattle.usb_scene.specs.WellFormed.{IsWellFormed}
 use Rattle.usb_line.specs.declared.owner.Owner.{Owner}
 use Rattle.usb_prepare.specs.Ends.{ends_of, shape_at}
 use Rattle.usb_prepare.specs.Layout.{home}
-use Rattle.usb_line.specs.Prepared.{machine_of, owner_of, Asking, asking_of}
+use Rattle.usb_line.specs.Prepared.{machine_of, owner_of, Question, question_at}
 use Rattle.usb_line.specs.Run.{Giveback, resent, given_entries, giveback_entries, is_first, is_accepted, action_by, may_again, question_out, asks_or_rests, acts, IsGiveback, IsHandled, asked_in, asked_of}
 use Rattle.usb_line.specs.Line.{Progress, with_takes, takes_below, is_unlinked, marked_of, had_after, GoesTo, IsServed, IsMarked, outcome_by, outcome_at, round_of, given_back, replies_had, waits, Passes, none, over, stops, Gives, unlinked, ended, GivesBack, one, IsIdle, asks}
 use Rattle.usb_line.specs.Due.{next_due}
-use Rattle.usb_line.proofs.Asking.{can_pose_any}
+use Rattle.usb_line.proofs.Question.{can_pose_any}
 use Rattle.usb_line.proofs.Entries.{stays}
 use Rattle.usb_line.proofs.MayFollow.{once}
 use Rattle.usb_line.proofs.Takes.{below_pass}
@@ -45,26 +45,26 @@ use Rattle.usb_line.proofs.Returning.{CanReturn, back_serves}
 -- the part of a pass that is not the server's stays, and no call was made
 pub record IsTurned (f m : Progress) : Type 0 where
   pub parts : (p : ℕ) → p ≢ SERVER → part_of m.history p ≡ part_of f.history p
-  pub doings : m.doings ≡ f.doings
+  pub call_records : m.call_records ≡ f.call_records
   pub down : m.down ≡ f.down
 
 pub turned_none : (f : Progress) → IsTurned f f
-turned_none f = record { parts = λ p off. refl; doings = refl; down = refl }
+turned_none f = record { parts = λ p off. refl; call_records = refl; down = refl }
 
 pub turned_on : (f m k : Progress) → IsTurned f m → IsTurned m k → IsTurned f k
-turned_on f m k a b = record { parts = λ p off. b.parts p off ∙ a.parts p off; doings = b.doings ∙ a.doings; down = b.down ∙ a.down }
+turned_on f m k a b = record { parts = λ p off. b.parts p off ∙ a.parts p off; call_records = b.call_records ∙ a.call_records; down = b.down ∙ a.down }
 
 -- passing over endpoints leaves the history and the givebacks
 pub record IsPassed (f m : Progress) : Type 0 where
   pub history : m.history ≡ f.history
   pub rounds : m.rounds ≡ f.rounds
-  pub doings : m.doings ≡ f.doings
+  pub call_records : m.call_records ≡ f.call_records
   pub down : m.down ≡ f.down
 
 pub passed : (s : Scene) (f m : Progress) (n : ℕ) → Passes s f n m → IsPassed f m
-passed s f _ n none = record { history = refl; rounds = refl; doings = refl; down = refl }
+passed s f _ n none = record { history = refl; rounds = refl; call_records = refl; down = refl }
 passed s f m _ (over e _ p skip) = passed s f m e p
-passed s f _ _ (stops e m u t n p awake at goes) = let old = passed s f m e p in record { history = old.history; rounds = old.rounds; doings = old.doings; down = old.down }
+passed s f _ _ (stops e m u t n p awake at goes) = let old = passed s f m e p in record { history = old.history; rounds = old.rounds; call_records = old.call_records; down = old.down }
 
 passes_serve : (s : Scene) (f m : Progress) (n : ℕ) → Passes s f n m → Serves s f → Serves s m
 passes_serve s f _ n none old = old
@@ -75,25 +75,25 @@ passes_serve s f _ _ (stops e m u t n p awake at goes) old = woke (waits_serve s
     woke q = q
 
 takes_turned : (s : Scene) (f : Progress) → IsTurned f (with_takes s f)
-takes_turned s f = record { parts = λ p off. stays SERVER f.history (takes_below s f.history (ends_of s)) (below_pass s f.history (ends_of s)) p (λ i. off (sym i)); doings = refl; down = refl }
+takes_turned s f = record { parts = λ p off. stays SERVER f.history (takes_below s f.history (ends_of s)) (below_pass s f.history (ends_of s)) p (λ i. off (sym i)); call_records = refl; down = refl }
 
 back_turned : (s : Scene) (f : Progress) (r : Giveback) → IsTurned f (given_back s f r)
-back_turned s f r = record { parts = λ p off. stays SERVER f.history (giveback_entries s r) (giveback_pass s f.history r) p (λ i. off (sym i)); doings = refl; down = refl }
+back_turned s f r = record { parts = λ p off. stays SERVER f.history (giveback_entries s r) (giveback_pass s f.history r) p (λ i. off (sym i)); call_records = refl; down = refl }
 
 pub outcome_gated : (s : Scene) (f : Progress) (u : ℕ) (status : Code) (finished : Bool) (t : Transfer)
-    → IsGated s (f.history ++ given_entries u status finished) u (asking_of s u) (outcome_at s f u status finished t)
-outcome_gated s f u status finished t = go (asking_of s u) (acts s f.rounds u status t)
+    → IsGated s (f.history ++ given_entries u status finished) u (question_at s u) (outcome_at s f u status finished t)
+outcome_gated s f u status finished t = go (question_at s u) (acts s f.rounds u status t)
   where
-    go : (asking : Option Asking) (act : Action) → IsGated s (f.history ++ given_entries u status finished) u asking (outcome_by s (f.history ++ given_entries u status finished) u asking act)
+    go : (asking : Option Question) (act : Action) → IsGated s (f.history ++ given_entries u status finished) u asking (outcome_by s (f.history ++ given_entries u status finished) u asking act)
     go asking (action.Again from len) = refl
     go (Some a) action.Ask = refl
     go None action.Ask = tt
     go asking action.Rest = tt
 
 outcome_handled : (s : Scene) (f : Progress) (u : ℕ) (status : Code) (finished : Bool) (t : Transfer) → IsHandled (acts s f.rounds u status t) (outcome_at s f u status finished t)
-outcome_handled s f u status finished t = go (asking_of s u) (question_out s f.rounds (owner_of s u)) (action_by (owner_of s u) (may_again s f.rounds u) status t)
+outcome_handled s f u status finished t = go (question_at s u) (question_out s f.rounds (owner_of s u)) (action_by (owner_of s u) (may_again s f.rounds u) status t)
   where
-    go : (asking : Option Asking) (out : Bool) (raw : Action)
+    go : (asking : Option Question) (out : Bool) (raw : Action)
         → IsHandled (asks_or_rests asking out raw) (outcome_by s (f.history ++ given_entries u status finished) u asking (asks_or_rests asking out raw))
     go (Some a) false action.Ask = tt
     go (Some a) true action.Ask = tt
@@ -110,9 +110,9 @@ outcome_handled s f u status finished t = go (asking_of s u) (question_out s f.r
 
 -- what was unlinked asks nothing
 pub unlinked_unasked : (s : Scene) (f : Progress) (u : ℕ) (why : Why) (finished : Bool) (t : Transfer) → is_accepted (outcome_at s f u (Fault (errno_of why)) finished t) ≡ false
-unlinked_unasked s f u why finished t = by_owner (owner_of s u) (asking_of s u) (question_out s f.rounds (owner_of s u))
+unlinked_unasked s f u why finished t = by_owner (owner_of s u) (question_at s u) (question_out s f.rounds (owner_of s u))
   where
-    none : (raw : Action) → (raw ≡ action.Ask → ⊥) → (asking : Option Asking) (out : Bool)
+    none : (raw : Action) → (raw ≡ action.Ask → ⊥) → (asking : Option Question) (out : Bool)
         → is_accepted (outcome_by s (f.history ++ given_entries u (Fault (errno_of why)) finished) u asking (asks_or_rests asking out raw)) ≡ false
     none action.Ask off asking out = absurd (off refl)
     none action.Rest off (Some a) true = refl
@@ -128,7 +128,7 @@ unlinked_unasked s f u why finished t = by_owner (owner_of s u) (asking_of s u) 
     own true e = cc
     own false e = cc
 
-    by_owner : (o : Option Owner) (asking : Option Asking) (out : Bool)
+    by_owner : (o : Option Owner) (asking : Option Question) (out : Bool)
         → is_accepted (outcome_by s (f.history ++ given_entries u (Fault (errno_of why)) finished) u asking (asks_or_rests asking out (action_by o (may_again s f.rounds u) (Fault (errno_of why)) t))) ≡ false
     by_owner None asking out = none (action_by None (may_again s f.rounds u) (Fault (errno_of why)) t) (own (may_again s f.rounds u)) asking out
     by_owner (Some o) asking out = none (action_by (Some o) (may_again s f.rounds u) (Fault (errno_of why)) t) (λ e. let rests = unlinked_rests o.driver o.role why t in let x = sym rests ∙ e in cc) asking out
@@ -259,7 +259,7 @@ module _ (s : Scene) where
   gives_turned f _ (ended e m u t n code unmarked passes near awake at goes) =
       let same = passed s (with_takes s f) m e passes in
       turned_on f (with_takes s f) _ (takes_turned s f) (turned_on (with_takes s f) m _
-      record { parts = λ p off. ap (λ h. part_of h p) same.history; doings = same.doings; down = same.down }
+      record { parts = λ p off. ap (λ h. part_of h p) same.history; call_records = same.call_records; down = same.down }
       (back_turned s m (round_of s m u code true t (had_after s m e t n))))
 
   pub idle_serves : (f e : Progress) → IsIdle s f e → Serves s f → Serves s e
@@ -267,7 +267,7 @@ module _ (s : Scene) where
 
   pub idle_turned : (f e : Progress) → IsIdle s f e → IsTurned f e
   idle_turned f e idle = let same = passed s (with_takes s f) e (ends_of s) idle.passed in
-      turned_on f (with_takes s f) e (takes_turned s f) record { parts = λ p off. ap (λ h. part_of h p) same.history; doings = same.doings; down = same.down }
+      turned_on f (with_takes s f) e (takes_turned s f) record { parts = λ p off. ap (λ h. part_of h p) same.history; call_records = same.call_records; down = same.down }
 
   pub gives_back_serve : IsWellFormed s → (f m : Progress) → GivesBack s f m → Serves s f → Serves s m
   gives_back_serve good f _ none old = old

@@ -23,7 +23,7 @@ woken_serves s f old = record {
 }
 
 pub woken_turned : (f : Progress) → IsTurned f (woken f)
-woken_turned f = record { parts = λ p off. refl; doings = refl; down = refl }
+woken_turned f = record { parts = λ p off. refl; call_records = refl; down = refl }
 
 -- an URB that is quiet is not queued, and no handler of it runs
 pub quiet_state : (t : UrbState) → is_quiet t ≡ true → (t.queued ≡ false) × (t.handlers ≡ 0)

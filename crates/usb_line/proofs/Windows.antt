@@ -17,8 +17,8 @@ use Rattle.usb_prepare.specs.Ends.{shape_at}
 use Rattle.usb_prepare.specs.Layout.{home}
 use Rattle.usb_line.specs.declared.owner.Owner.{Owner}
 use Rattle.usb_line.specs.declared.made.Outcome.TheVariants as outcome
-use Rattle.usb_line.specs.Prepared.{owner_of, Asking, asking_of}
-use Rattle.usb_line.specs.Run.{Doing, IsRun, times_back, Giveback, moved_in, resent, resent_as, may_again, question_out, asks_or_rests, action_by, acts, IsHandled, AreHandled}
+use Rattle.usb_line.specs.Prepared.{owner_of, Question, question_at}
+use Rattle.usb_line.specs.Run.{CallRecord, IsRun, times_back, Giveback, moved_in, resent, resent_as, may_again, question_out, asks_or_rests, action_by, acts, IsHandled, AreHandled}
 use Rattle.usb_line.specs.RunLaws.{takes_packets}
 use Rattle.usb_line.proofs.Carrying.{sent_on}
 
@@ -28,7 +28,7 @@ handled_at s m [] r behind all = subst (λ l. IsHandled (acts s l r.urb r.status
 handled_at s m (x ∷ before) r behind all = subst (λ l. IsHandled (acts s l r.urb r.status (moved_in s r)) r.outcome) (append_assoc m (x ∷ []) before) (handled_at s (m ++ x ∷ []) before r behind all.1)
 
 -- what is submitted again is moved on, as the action says
-goes_on : (a : Action) (asking : Option Asking) (out : Bool) (t : Transfer) → IsHandled (asks_or_rests asking out a) (outcome.Again Zero) → IsMovedOn a t (window_by a t)
+goes_on : (a : Action) (asking : Option Question) (out : Bool) (t : Transfer) → IsHandled (asks_or_rests asking out a) (outcome.Again Zero) → IsMovedOn a t (window_by a t)
 goes_on (Again from len) asking out t is = refl
 goes_on Rest None out t is = absurd is
 goes_on Rest (Some a) true t is = absurd is
@@ -41,12 +41,12 @@ module _ (s : Scene) (before : List Giveback) (r : Giveback) (behind : List Give
   pub moved_on : IsMovedOn (action_of o.driver o.role r.status (moved_in s r)) (moved_in s r) (resent s r)
   moved_on =
       let out = question_out s before (owner_of s r.urb) in
-      let said : IsHandled (asks_or_rests (asking_of s r.urb) out (action_by (owner_of s r.urb) (may_again s before r.urb) r.status (moved_in s r))) (outcome.Again Zero) =
+      let said : IsHandled (asks_or_rests (question_at s r.urb) out (action_by (owner_of s r.urb) (may_again s before r.urb) r.status (moved_in s r))) (outcome.Again Zero) =
       subst (IsHandled (acts s before r.urb r.status (moved_in s r))) did (handled_at s [] before r behind all) in
-      let by : IsHandled (asks_or_rests (asking_of s r.urb) out (action_of o.driver o.role r.status (moved_in s r))) (outcome.Again Zero) =
-      subst (λ w. IsHandled (asks_or_rests (asking_of s r.urb) out (action_by w (may_again s before r.urb) r.status (moved_in s r))) (outcome.Again Zero)) owned said in
+      let by : IsHandled (asks_or_rests (question_at s r.urb) out (action_of o.driver o.role r.status (moved_in s r))) (outcome.Again Zero) =
+      subst (λ w. IsHandled (asks_or_rests (question_at s r.urb) out (action_by w (may_again s before r.urb) r.status (moved_in s r))) (outcome.Again Zero)) owned said in
       subst (IsMovedOn (action_of o.driver o.role r.status (moved_in s r)) (moved_in s r)) (ap (λ w. resent_as w r.status (moved_in s r)) (sym owned))
-      (goes_on (action_of o.driver o.role r.status (moved_in s r)) (asking_of s r.urb) out (moved_in s r) by)
+      (goes_on (action_of o.driver o.role r.status (moved_in s r)) (question_at s r.urb) out (moved_in s r) by)
 
 -- an endpoint that takes packets leaves all but the count of the moved bytes
 pub kept_by_out : (shape : Shape) (t : Transfer) (replies : List Reply) → takes_packets shape ≡ true → moved shape t replies ≡ record t { actual = min t.len (shape.max * acks replies) }
@@ -66,7 +66,7 @@ any_count (Again from len) t next n is = ap (λ (x : Transfer). record x { actua
 any_count Rest t next n is = absurd is
 any_count Ask t next n is = absurd is
 
-module _ (s : Scene) (h : List Entry) (doings : List Doing) (rounds : List Giveback) (run : IsRun s h doings rounds)
+module _ (s : Scene) (h : List Entry) (call_records : List CallRecord) (rounds : List Giveback) (run : IsRun s h call_records rounds)
     (before : List Giveback) (r : Giveback) (middle : List Giveback) (next : Giveback) (behind : List Giveback)
     (parts : rounds ≡ before ++ r ∷ (middle ++ next ∷ behind)) (did : r.outcome ≡ outcome.Again Zero) (same : next.urb ≡ r.urb) (none : times_back r.urb middle ≡ 0)
     (o : Owner) (owned : owner_of s r.urb ≡ Some o) (takes : takes_packets (shape_at s (home s r.urb)) ≡ true) where
@@ -76,7 +76,7 @@ module _ (s : Scene) (h : List Entry) (doings : List Doing) (rounds : List Giveb
   pub windows_follow : IsMovedOn action (moved_in s r) (moved_in s next)
   windows_follow =
       let sent : IsMovedOn action (moved_in s r) next.sent =
-      subst (IsMovedOn action (moved_in s r)) (sym (sent_on s h doings rounds run before r middle next behind parts did same none))
+      subst (IsMovedOn action (moved_in s r)) (sym (sent_on s h call_records rounds run before r middle next behind parts did same none))
       (moved_on s before r (middle ++ next ∷ behind) o (subst (AreHandled s []) parts run.handled) did owned) in
       let back : moved_in s next ≡ record (next.sent) { actual = min next.sent.len ((shape_at s (home s r.urb)).max * acks next.replies) } =
       ap (λ u. moved (shape_at s (home s u)) next.sent next.replies) same ∙ kept_by_out (shape_at s (home s r.urb)) next.sent next.replies takes in

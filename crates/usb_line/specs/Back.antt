@@ -23,7 +23,7 @@ use Rattle.usb_class.specs.declared.class_core.Core.{Core}
 use Rattle.usb_class.specs.Done.{Done}
 use Rattle.usb_class.specs.Handler.{action_of, goes_again, window_by}
 use Rattle.usb_class.specs.Origin.{Origin}
-use Rattle.usb_class.specs.Asking.{question_by, still_out}
+use Rattle.usb_class.specs.Questions.{question_by, still_out}
 use Rattle.usb_class.specs.Core.{IsCore, is_asking, CanComplete, CanUnask}
 use Rattle.usb_scene.specs.declared.scene.Scene.{Scene}
 use Rattle.usb_line.specs.declared.owner.Owner.{Owner}
@@ -35,22 +35,22 @@ use Rattle.usb_line.specs.declared.run.Received.{Received}
 use Rattle.usb_line.specs.declared.run.LineRun.{LineRun}
 use Rattle.usb_prepare.specs.Ends.{shape_at}
 use Rattle.usb_prepare.specs.Layout.{home}
-use Rattle.usb_line.specs.declared.giveback.Inquiry.{Inquiry}
+use Rattle.usb_line.specs.declared.giveback.PosedQuestion.{PosedQuestion}
 use Rattle.usb_line.specs.Between.{IsBare}
-use Rattle.usb_line.specs.Prepared.{machine_of, owner_of, Asking, asking_of}
+use Rattle.usb_line.specs.Prepared.{machine_of, owner_of, Question, question_at}
 use Rattle.usb_line.specs.Line.{submit_answer}
 use Rattle.usb_line.specs.Run.{Giveback, moved_in, resent, action_by, asked_entries, handled_by, given_entries, giveback_entries}
-use Rattle.usb_line.specs.Given.{brought_bytes, sent_bytes, IsReceived}
+use Rattle.usb_line.specs.GivebackRow.{brought_bytes, sent_bytes, IsReceived}
 
 -- the handler was answered by the gate: of the URB that it submits again in this state, or of the one that a question is asked with
-abbrev pub IsGated : Scene → List Entry → ℕ → Option Asking → Outcome → Type 0
+abbrev pub IsGated : Scene → List Entry → ℕ → Option Question → Outcome → Type 0
 IsGated s h u asking outcome.Rest = Unit {0}
 IsGated s h u asking (outcome.Again code) = code ≡ refusal (state_of h u)
 IsGated s h u (Some a) (outcome.Asked code) = code ≡ submit_answer (shape_fault (shape_at s (home s a.urb)) a.transfer) (refusal (state_of h a.urb))
 IsGated s h u None (outcome.Asked code) = ⊥
 
 -- a question can be asked with its URB, which is not the one that comes back
-pub record CanPose (s : Scene) (u : ℕ) (a : Asking) : Type 0 where
+pub record CanPose (s : Scene) (u : ℕ) (a : Question) : Type 0 where
   pub apart : a.urb ≢ u
   pub has : HasHome (machine_of s) a.urb
   pub window : HasWindow a.transfer
@@ -58,7 +58,7 @@ pub record CanPose (s : Scene) (u : ℕ) (a : Asking) : Type 0 where
   pub home : slice_get (machine_of s).layout.shapes (home s a.urb) ≡ Some (shape_at s (home s a.urb))
   pub bare : IsBare (owner_of s a.urb) a.transfer.setup
 
-abbrev pub CanPoseAny : Scene → ℕ → Option Asking → Type 0
+abbrev pub CanPoseAny : Scene → ℕ → Option Question → Type 0
 CanPoseAny s u None = Unit {0}
 CanPoseAny s u (Some a) = CanPose s u a
 
@@ -76,8 +76,8 @@ pub record CanGive (s : Scene) (h : List Entry) (r : Giveback) : Type 0 where
   pub goes : HasWindow (resent s r)
   pub fits : Accepts (slice_get (machine_of s).layout.shapes (home s r.urb)) (resent s r)
   pub settled : IsSettled s h r r.finished
-  pub asks : CanPoseAny s r.urb (asking_of s r.urb)
-  pub gated : IsGated s (h ++ given_entries r.urb r.status r.finished) r.urb (asking_of s r.urb) r.outcome
+  pub asks : CanPoseAny s r.urb (question_at s r.urb)
+  pub gated : IsGated s (h ++ given_entries r.urb r.status r.finished) r.urb (question_at s r.urb) r.outcome
 
 -- where the mark of a finished transfer stands
 abbrev pub finish_entries : ℕ → Code → Bool → List Entry
@@ -88,7 +88,7 @@ abbrev pub given_after : List Entry → Giveback → List Entry
 given_after h r = h ++ given_entries r.urb r.status r.finished
 
 abbrev pub acted_entries : Scene → Giveback → List Entry
-acted_entries s r = handled_by s r.urb (moved_in s r) (resent s r) (asking_of s r.urb) r.outcome
+acted_entries s r = handled_by s r.urb (moved_in s r) (resent s r) (question_at s r.urb) r.outcome
 
 -- the giveback is one of a transfer that ended with this code, or else of one that was unlinked
 abbrev pub EndsBy : Option Code → Giveback → Type 0
@@ -141,29 +141,29 @@ Noted old new (Some o) may status t action =
     (core : Core) × (after : Core) × (slice_get old o.place ≡ Some core) × (new ≡ slice_set old o.place after) × Took core o status t action after
 
 -- the core of the driver gave its question, if it has one that is not out
-abbrev pub GaveInquiry : Core → Core → Option Transfer → Type 0
-GaveInquiry old new t = (driver : Driver) (origin : Origin) (done : List Done) → IsCore driver origin done old
+abbrev pub GaveQuestion : Core → Core → Option Transfer → Type 0
+GaveQuestion old new t = (driver : Driver) (origin : Origin) (done : List Done) → IsCore driver origin done old
     → (t ≡ (if is_asking old then None else question_by driver origin)) × IsCore driver origin done new
     × (is_asking new ≡ (if is_some t then true else is_asking old))
 
 -- the question that an action asks, of an URB that a driver has: its core gives it, and no other core changes
-abbrev pub InquiryOf : LineRun → LineRun → Owner → UrbId → Option Inquiry → Type 0
-InquiryOf old new o urb None = (core : Core) × (after : Core) × (slice_get old.cores.items o.place ≡ Some core) × (new.cores.items ≡ slice_set old.cores.items o.place after) × GaveInquiry core after None
-InquiryOf old new o urb (Some q) = (core : Core) × (after : Core) × (slice_get old.cores.items o.place ≡ Some core) × (new.cores.items ≡ slice_set old.cores.items o.place after)
-    × GaveInquiry core after (Some q.transfer) × CanUnask after q.transfer × (q.place ≡ o.place) × (q.urb ≡ urb)
+abbrev pub QuestionOf : LineRun → LineRun → Owner → UrbId → Option PosedQuestion → Type 0
+QuestionOf old new o urb None = (core : Core) × (after : Core) × (slice_get old.cores.items o.place ≡ Some core) × (new.cores.items ≡ slice_set old.cores.items o.place after) × GaveQuestion core after None
+QuestionOf old new o urb (Some q) = (core : Core) × (after : Core) × (slice_get old.cores.items o.place ≡ Some core) × (new.cores.items ≡ slice_set old.cores.items o.place after)
+    × GaveQuestion core after (Some q.transfer) × CanUnask after q.transfer × (q.place ≡ o.place) × (q.urb ≡ urb)
     × ((row : UrbRow) (end : EndRow) → slice_get old.urbs.items urb.0 ≡ Some row → slice_get old.ends.items row.home ≡ Some end → q.fault ≡ shape_fault end.shape q.transfer)
 
 -- no question is asked, and nothing changed
-abbrev pub NoInquiry : LineRun → LineRun → Option Inquiry → Type 0
-NoInquiry old new q = (q ≡ None) × (new.cores ≡ old.cores)
+abbrev pub NoQuestion : LineRun → LineRun → Option PosedQuestion → Type 0
+NoQuestion old new q = (q ≡ None) × (new.cores ≡ old.cores)
 
-abbrev pub InquiryWith : LineRun → LineRun → Owner → Option UrbId → Option Inquiry → Type 0
-InquiryWith old new o None q = NoInquiry old new q
-InquiryWith old new o (Some urb) q = InquiryOf old new o urb q
+abbrev pub QuestionWith : LineRun → LineRun → Owner → Option UrbId → Option PosedQuestion → Type 0
+QuestionWith old new o None q = NoQuestion old new q
+QuestionWith old new o (Some urb) q = QuestionOf old new o urb q
 
-abbrev pub InquiryBy : LineRun → LineRun → Option Owner → Action → Option Inquiry → Type 0
-InquiryBy old new (Some o) Ask q = InquiryWith old new o o.ctl q
-InquiryBy old new o action q = NoInquiry old new q
+abbrev pub QuestionBy : LineRun → LineRun → Option Owner → Action → Option PosedQuestion → Type 0
+QuestionBy old new (Some o) Ask q = QuestionWith old new o o.ctl q
+QuestionBy old new o action q = NoQuestion old new q
 
 -- the machine marked URB u as finished where its transfer ended
 abbrev pub Finished : Plain → Plain → ℕ → Option Code → Type 0
@@ -175,38 +175,38 @@ Resubmitted old new u number code = (s : Scene) (h : List Entry) (r : Giveback) 
     → r.outcome ≡ outcome.Again says → (code ≡ says) × Stands new (machine_of s) (given_after h r ++ acted_entries s r)
 
 -- the code's question is this one
-pub record IsPosed (s : Scene) (a : Asking) (q : Inquiry) : Type 0 where
+pub record IsPosed (s : Scene) (a : Question) (q : PosedQuestion) : Type 0 where
   pub urb : q.urb.0 ≡ a.urb
   pub transfer : q.transfer ≡ a.transfer
   pub fault : q.fault ≡ shape_fault (shape_at s (home s a.urb)) a.transfer
 
 -- the giveback asks the question that the code has
-abbrev pub IsPosedBy : Scene → Option Asking → Outcome → Option Inquiry → Type 0
+abbrev pub IsPosedBy : Scene → Option Question → Outcome → Option PosedQuestion → Type 0
 IsPosedBy s asking outcome.Rest q = q ≡ None
 IsPosedBy s asking (outcome.Again code) q = Unit {0}
 IsPosedBy s (Some a) (outcome.Asked code) (Some q) = IsPosed s a q
 IsPosedBy s asking (outcome.Asked code) q = ⊥
 
-abbrev pub ArePosed : Scene → Giveback → Option Inquiry → Type 0
-ArePosed s r q = IsPosedBy s (asking_of s r.urb) r.outcome q
+abbrev pub ArePosed : Scene → Giveback → Option PosedQuestion → Type 0
+ArePosed s r q = IsPosedBy s (question_at s r.urb) r.outcome q
 
 -- it asked this question
-abbrev pub PosesInquiry : Plain → Plain → Inquiry → Code → Type 0
-PosesInquiry old new q code = (s : Scene) (h : List Entry) (u : ℕ) (a : Asking) → Stands old (machine_of s) h → CanPose s u a → IsPosed s a q
+abbrev pub PosesQuestion : Plain → Plain → PosedQuestion → Code → Type 0
+PosesQuestion old new q code = (s : Scene) (h : List Entry) (u : ℕ) (a : Question) → Stands old (machine_of s) h → CanPose s u a → IsPosed s a q
     → (code ≡ submit_answer (shape_fault (shape_at s (home s a.urb)) a.transfer) (refusal (state_of h a.urb))) × Stands new (machine_of s) (h ++ asked_entries s (Some a) code)
 
 -- it did this
-abbrev pub Acted : Plain → Plain → ℕ → Bool → ℕ → Option Inquiry → Outcome → Type 0
+abbrev pub Acted : Plain → Plain → ℕ → Bool → ℕ → Option PosedQuestion → Outcome → Type 0
 Acted old new u again number q o = (s : Scene) (h : List Entry) (r : Giveback) → Stands old (machine_of s) (given_after h r) → CanGive s h r → r.urb ≡ u → r.sent.number ≡ number
     → is_again r.outcome ≡ again → ArePosed s r q → (o ≡ r.outcome) × Stands new (machine_of s) (given_after h r ++ acted_entries s r)
 
 -- the machine gave URB u back with this status
-abbrev pub Given : Plain → Plain → ℕ → Option Code → Code → Type 0
-Given old new u ended status = (s : Scene) (h : List Entry) (r : Giveback) → Stands old (machine_of s) h → MayGive s h r u ended
+abbrev pub GaveStatus : Plain → Plain → ℕ → Option Code → Code → Type 0
+GaveStatus old new u ended status = (s : Scene) (h : List Entry) (r : Giveback) → Stands old (machine_of s) h → MayGive s h r u ended
     → (status ≡ r.status) × Stands new (machine_of s) (given_after h r)
 
 -- and its handler did this, and ended
-abbrev pub Handled : Plain → Plain → ℕ → Bool → ℕ → Option Inquiry → Outcome → Type 0
+abbrev pub Handled : Plain → Plain → ℕ → Bool → ℕ → Option PosedQuestion → Outcome → Type 0
 Handled old new u again number q o = (s : Scene) (h : List Entry) (r : Giveback) → Stands old (machine_of s) (given_after h r) → CanGive s h r → r.urb ≡ u → r.sent.number ≡ number
     → is_again r.outcome ≡ again → ArePosed s r q → (o ≡ r.outcome) × Stands new (machine_of s) (h ++ giveback_entries s r)
 
@@ -215,7 +215,7 @@ abbrev pub TookBack : Core → Core → Type 0
 TookBack old new = ((driver : Driver) (origin : Origin) (done : List Done) → IsCore driver origin done old → IsCore driver origin done new) × (is_asking new ≡ false)
 
 -- the transfer of a question that was accepted is in the row of its URB, and the core of one that was not has it back
-abbrev pub SettledBy : LineRun → LineRun → Inquiry → Outcome → Type 0
+abbrev pub SettledBy : LineRun → LineRun → PosedQuestion → Outcome → Type 0
 SettledBy old new q (outcome.Asked Zero) =
     ((row : UrbRow) × (slice_get old.urbs.items q.urb.0 ≡ Some row) × (new.urbs.items ≡ slice_set old.urbs.items q.urb.0 (record row { transfer = Some q.transfer })))
     × (new.cores ≡ old.cores)
@@ -223,12 +223,12 @@ SettledBy old new q o =
     ((core : Core) × (after : Core) × (slice_get old.cores.items q.place ≡ Some core) × (new.cores.items ≡ slice_set old.cores.items q.place after) × TookBack core after)
     × (new.urbs ≡ old.urbs)
 
-abbrev pub Settled : LineRun → LineRun → Option Inquiry → Outcome → Type 0
+abbrev pub Settled : LineRun → LineRun → Option PosedQuestion → Outcome → Type 0
 Settled old new None o = new ≡ old
 Settled old new (Some q) o = SettledBy old new q o × (new ≡ record old { urbs = new.urbs; cores = new.cores })
 
 -- the URB of the question is there, and its core may take it back
-abbrev pub CanSettle : LineRun → Option Inquiry → Type 0
+abbrev pub CanSettle : LineRun → Option PosedQuestion → Type 0
 CanSettle run None = Unit {0}
 CanSettle run (Some q) = (q.urb.0 < length run.urbs.items) × (core : Core) × (slice_get run.cores.items q.place ≡ Some core) × CanUnask core q.transfer
 
@@ -238,9 +238,9 @@ CanAsk run o = (urb : UrbId) → option_and_then (λ (o : Owner). o.ctl) o ≡ S
     → (urb.0 < length run.urbs.items) × (urb.0 < urbs_of run.plain) × ((row : UrbRow) → slice_get run.urbs.items urb.0 ≡ Some row → row.home < length run.ends.items)
 
 -- the core of an URB that a driver has is there
-abbrev pub CanInquire : List Core → Option Owner → Type 0
-CanInquire cores None = Unit {0}
-CanInquire cores (Some o) = o.place < length cores
+abbrev pub CanPoseQuestion : List Core → Option Owner → Type 0
+CanPoseQuestion cores None = Unit {0}
+CanPoseQuestion cores (Some o) = o.place < length cores
 
 -- what a giveback of URB u with this transfer changes
 pub record GaveBack (old new : LineRun) (u : ℕ) (ended : Option Code) (t : Transfer) : Type 0 where
@@ -255,16 +255,16 @@ pub record GaveBack (old new : LineRun) (u : ℕ) (ended : Option Code) (t : Tra
   -- the machine gave it back, and its core took note of it
   pub decided : LineRun
   pub noted : Noted old.cores.items decided.cores.items row.owner (nat_lt 0 row.again) status t action
-  pub given : Given old.plain decided.plain u ended status
+  pub given : GaveStatus old.plain decided.plain u ended status
   pub decided_so : decided ≡ record old { plain = decided.plain; cores = decided.cores }
   -- the core gave its question
-  pub inquiry : Option Inquiry
+  pub posed_question : Option PosedQuestion
   pub asking : LineRun
-  pub asked : InquiryBy decided asking row.owner action inquiry
+  pub asked : QuestionBy decided asking row.owner action posed_question
   pub asking_so : asking ≡ record decided { cores = asking.cores }
   -- the handler did this
   pub acted : LineRun
-  pub handled : Handled decided.plain acted.plain u (goes_again action) t.number inquiry did
+  pub handled : Handled decided.plain acted.plain u (goes_again action) t.number posed_question did
   pub rows : acted.urbs.items ≡ slice_set old.urbs.items u (row_back did action t row)
   pub more : Adds end.received received (sent_bytes end.shape t)
   pub ends_so : acted.ends.items ≡ slice_set old.ends.items row.home (record end { received = received })
@@ -273,4 +273,4 @@ pub record GaveBack (old new : LineRun) (u : ℕ) (ended : Option Code) (t : Tra
   pub host : acted.down ≡ old.down
   pub same_devices : acted.devices ≡ old.devices
   -- and the question is settled
-  pub settled : Settled acted new inquiry did
+  pub settled : Settled acted new posed_question did

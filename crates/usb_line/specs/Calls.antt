@@ -7,15 +7,15 @@ use Rattle.usb_machine.specs.Calls.{claim_entries, unblock_entries}
 use Rattle.usb_scene.specs.declared.scene.Scene.{Scene}
 use Rattle.usb_scene.specs.declared.scene.Call.{Call}
 use Rattle.usb_scene.specs.WellFormed.{IsWellFormed}
-use Rattle.usb_line.specs.declared.made.Deed.{Deed}
+use Rattle.usb_line.specs.declared.made.HostCall.{HostCall}
 use Rattle.usb_line.specs.declared.made.CallAnswer.{CallAnswer}
 use Rattle.usb_line.specs.declared.made.CallMade.{CallMade}
 use Rattle.usb_line.specs.declared.run.LineRun.{LineRun}
-use Rattle.usb_line.specs.Prepared.{deed_of, pass_of, main_pass, calls_of}
+use Rattle.usb_line.specs.Prepared.{host_call_of, pass_of, main_pass, calls_of}
 use Rattle.usb_prepare.specs.Below.{below}
 use Rattle.usb_prepare.specs.Layout.{urb_count}
-use Rattle.usb_line.specs.Run.{Doing}
-use Rattle.usb_line.specs.Line.{Progress, adds, Gives, StaysLoud, WaitsFor, ClaimsEach, is_quiet, killing, Makes, with_doing, IsLine, Closes, IsLineRun}
+use Rattle.usb_line.specs.Run.{CallRecord}
+use Rattle.usb_line.specs.Line.{Progress, adds, Gives, StaysLoud, WaitsFor, ClaimsEach, is_quiet, killing, Makes, with_call_record, IsLine, Closes, IsLineRun}
 use Rattle.usb_line.specs.Shows.{Shows}
 use Rattle.usb_line.specs.Outcome.{made_of}
 use Rattle.usb_line.specs.Steps.{passes_of, IsStopping}
@@ -68,30 +68,30 @@ pub record IsNext (s : Scene) (f : Progress) (i : ℕ) (c : Call) : Type 0 where
   pub in_line : IsLine s f
   pub near : i < length s.threads
   pub rest : List (ℕ × Call)
-  pub all : map (λ d. (d.thread, d.call)) f.doings ++ (i, c) ∷ rest ≡ calls_of s
+  pub all : map (λ d. (d.thread, d.call)) f.call_records ++ (i, c) ∷ rest ≡ calls_of s
 
 -- this pass makes that call, which does this, and the object shows the run before it
-pub record MayMake (s : Scene) (f : Progress) (i : ℕ) (c : Call) (run : LineRun) (p : ℕ) (deed : Deed) : Type 0 where
+pub record MayMake (s : Scene) (f : Progress) (i : ℕ) (c : Call) (run : LineRun) (p : ℕ) (host_call : HostCall) : Type 0 where
   pub good : IsWellFormed s
   pub next : IsNext s f i c
   pub shows : Shows s f run
-  pub does : deed_of s c ≡ deed
+  pub does : host_call_of s c ≡ host_call
   pub pass : pass_of s i ≡ p
 
-pub record CanMake (run : LineRun) (p : ℕ) (deed : Deed) : Type 0 where
+pub record CanMake (run : LineRun) (p : ℕ) (host_call : HostCall) : Type 0 where
   pub scene : Scene
   pub far : Progress
   pub thread : ℕ
   pub call : Call
-  pub may : MayMake scene far thread call run p deed
+  pub may : MayMake scene far thread call run p host_call
 
 -- what the call did, with its answer
 pub record Made (s : Scene) (f : Progress) (i : ℕ) (c : Call) (answer : CallAnswer) (run : LineRun) : Type 0 where
-  pub did : Doing
+  pub did : CallRecord
   pub far : Progress
   pub makes : Makes s f i c did far
   pub told : did.answer ≡ answer
-  pub shows : Shows s (with_doing s far did) run
+  pub shows : Shows s (with_call_record s far did) run
 
 -- all URBs are stopping, and the hub holds its flag on each
 pub record IsShut (s : Scene) (f : Progress) (run : LineRun) : Type 0 where
@@ -127,15 +127,15 @@ pub record CanBeMade (s : Scene) (i : ℕ) (c : Call) (run : LineRun) : Type 0 w
 pub record IsUnderway (s : Scene) (calls : List (ℕ × Call)) (run : LineRun) (made : List CallMade) : Type 0 where
   pub far : Progress
   pub in_line : IsLine s far
-  pub all : map (λ d. (d.thread, d.call)) far.doings ≡ calls
-  pub told : made ≡ map made_of far.doings
+  pub all : map (λ d. (d.thread, d.call)) far.call_records ≡ calls
+  pub told : made ≡ map made_of far.call_records
   pub shows : Shows s far run
 
 -- all calls of the scene were made
 pub record IsCalled (s : Scene) (f : Progress) (run : LineRun) : Type 0 where
   pub good : IsWellFormed s
   pub in_line : IsLine s f
-  pub all : map (λ d. (d.thread, d.call)) f.doings ≡ calls_of s
+  pub all : map (λ d. (d.thread, d.call)) f.call_records ≡ calls_of s
   pub shows : Shows s f run
 
 pub record CanEnd (run : LineRun) (p : ℕ) : Type 0 where
@@ -162,5 +162,5 @@ pub record KilledEach (s : Scene) (f : Progress) (n : ℕ) (run : LineRun) : Typ
 pub record Closed (s : Scene) (f : Progress) (run : LineRun) : Type 0 where
   pub far : Progress
   pub line : IsLineRun s far
-  pub same : far.doings ≡ f.doings
+  pub same : far.call_records ≡ f.call_records
   pub shows : Shows s far run

@@ -5,7 +5,7 @@ pub mod Run
 pub mod Reads
 pub mod Line
 pub mod Between
-pub mod Given
+pub mod GivebackRow
 pub mod Shows
 pub mod Steps
 pub mod Awake

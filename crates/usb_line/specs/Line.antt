@@ -28,16 +28,16 @@ use Rattle.usb_xfer.specs.declared.packet.Step.TheVariants.{More, Waiting, Ended
 use Rattle.usb_xfer.specs.Moved.{moved, moved_state, IsWhole, question_of}
 use Rattle.usb_scene.specs.declared.scene.Scene.{Scene}
 use Rattle.usb_scene.specs.declared.scene.Call.{Call}
-use Rattle.usb_line.specs.declared.made.Deed.{Deed}
-use Rattle.usb_line.specs.declared.made.Deed.TheVariants as deed
+use Rattle.usb_line.specs.declared.made.HostCall.{HostCall}
+use Rattle.usb_line.specs.declared.made.HostCall.TheVariants as host_call
 use Rattle.usb_line.specs.declared.made.CallAnswer.{CallAnswer}
 use Rattle.usb_line.specs.declared.made.CallAnswer.TheVariants as told
 use Rattle.usb_line.specs.declared.made.Outcome.{Outcome}
 use Rattle.usb_line.specs.declared.made.Outcome.TheVariants as outcome
 use Rattle.usb_prepare.specs.Ends.{ends_of, shape_at}
 use Rattle.usb_prepare.specs.Layout.{home}
-use Rattle.usb_line.specs.Prepared.{machine_of, Asking, asking_of, submit_fault, deed_of, pass_of, main_pass, calls_of}
-use Rattle.usb_line.specs.Run.{urbs_of, Doing, call_entries, down_after, Giveback, given_entries, giveback_entries, acts, is_first, opening, seen_quiet, asked_of}
+use Rattle.usb_line.specs.Prepared.{machine_of, Question, question_at, submit_fault, host_call_of, pass_of, main_pass, calls_of}
+use Rattle.usb_line.specs.Run.{urbs_of, CallRecord, call_entries, down_after, Giveback, given_entries, giveback_entries, acts, is_first, opening, seen_quiet, asked_of}
 use Rattle.usb_line.specs.Due.{next_due}
 use Rattle.std.specs.List.{flat_map}
 
@@ -45,14 +45,14 @@ use Rattle.std.specs.List.{flat_map}
 -- has had so far, which endpoints sleep, and whether the host is down
 pub record Progress : Type 0 where
   pub history : List Entry
-  pub doings : List Doing
+  pub call_records : List CallRecord
   pub rounds : List Giveback
   pub so_far : ℕ → List Reply
   pub asleep : ℕ → Bool
   pub down : Bool
 
 abbrev pub at_start : Progress
-at_start = record { history = []; doings = []; rounds = []; so_far = λ e. []; asleep = λ e. false; down = false }
+at_start = record { history = []; call_records = []; rounds = []; so_far = λ e. []; asleep = λ e. false; down = false }
 
 abbrev pub adds : Progress → List Entry → Progress
 adds f xs = record f { history = f.history ++ xs }
@@ -128,13 +128,13 @@ submit_answer None code = code
 submit_answer (Some errno) code = Fault errno
 
 -- what a handler of u that acts so after this history is answered by the gate: where it submits u again, and where it asks
-abbrev pub outcome_by : Scene → List Entry → ℕ → Option Asking → Action → Outcome
+abbrev pub outcome_by : Scene → List Entry → ℕ → Option Question → Action → Outcome
 outcome_by s h u asking (action.Again from len) = outcome.Again (refusal (state_of h u))
 outcome_by s h u (Some a) action.Ask = outcome.Asked (submit_answer (shape_fault (shape_at s (home s a.urb)) a.transfer) (refusal (state_of h a.urb)))
 outcome_by s h u asking act = outcome.Rest
 
 abbrev pub outcome_at : Scene → Progress → ℕ → Code → Bool → Transfer → Outcome
-outcome_at s f u status finished t = outcome_by s (f.history ++ given_entries u status finished) u (asking_of s u) (acts s f.rounds u status t)
+outcome_at s f u status finished t = outcome_by s (f.history ++ given_entries u status finished) u (question_at s u) (acts s f.rounds u status t)
 
 abbrev pub round_of : Scene → Progress → ℕ → Code → Bool → Transfer → List Reply → Giveback
 round_of s f u status finished t replies =
@@ -210,11 +210,11 @@ pub data ClaimsEach (s : Scene) (p : ℕ) (f : Progress) : List ℕ → List (Op
 abbrev pub killing : ℕ → ℕ → Progress → Progress
 killing p u f = adds f (plain_entry p (Reject record { 0 = u }) ∷ mark_entry p Kill u (unlinking (state_of f.history u)) ∷ [])
 
-abbrev pub with_doing : Scene → Progress → Doing → Progress
-with_doing s f d = record f { doings = f.doings ++ d ∷ []; down = down_after f.down (deed_of s d.call) d.answer }
+abbrev pub with_call_record : Scene → Progress → CallRecord → Progress
+with_call_record s f d = record f { call_records = f.call_records ++ d ∷ []; down = down_after f.down (host_call_of s d.call) d.answer }
 
-abbrev pub doing : Progress → ℕ → Call → CallAnswer → List Code → List (Option ℕ) → Doing
-doing f i c answer marks rests = record { thread = i; call = c; answer = answer; marks = marks; rests = rests; down = f.down }
+abbrev pub call_record : Progress → ℕ → Call → CallAnswer → List Code → List (Option ℕ) → CallRecord
+call_record f i c answer marks rests = record { thread = i; call = c; answer = answer; marks = marks; rests = rests; down = f.down }
 
 -- the beginning of a shutdown: all URBs are flagged, and then marked with the machine's answers
 abbrev pub all_flagged : Scene → ℕ → Progress → Progress
@@ -227,39 +227,39 @@ abbrev pub shutting : Scene → ℕ → Progress → Progress
 shutting s p f = adds (all_flagged s p f) (marks_of p Shutdown (urbs_of s) (shut_marks s p f))
 
 -- how a call of thread i goes that answers at once: its answer
-abbrev pub answer_now : Scene → Progress → Call → Deed → Option CallAnswer
-answer_now s f c (deed.Submit u) = Some (told.Code (submit_answer (submit_fault s u c) (refusal (state_of f.history u))))
-answer_now s f c (deed.Unlink u) = Some (told.Code (unlinking (state_of f.history u)))
-answer_now s f c (deed.Kill u) = None
-answer_now s f c (deed.Poison u) = None
-answer_now s f c (deed.Unpoison u) = Some told.Done
-answer_now s f c (deed.Block u) = Some told.Done
-answer_now s f c (deed.Unblock u) = Some told.Done
-answer_now s f c deed.Serve = None
-answer_now s f c deed.Down = if f.down then Some (told.Code (Fault ESHUTDOWN)) else None
-answer_now s f c deed.Up = Some told.Done
-answer_now s f c deed.Absent = Some (told.Code (Fault ENODEV))
-answer_now s f c deed.Other = None
+abbrev pub answer_now : Scene → Progress → Call → HostCall → Option CallAnswer
+answer_now s f c (host_call.Submit u) = Some (told.Code (submit_answer (submit_fault s u c) (refusal (state_of f.history u))))
+answer_now s f c (host_call.Unlink u) = Some (told.Code (unlinking (state_of f.history u)))
+answer_now s f c (host_call.Kill u) = None
+answer_now s f c (host_call.Poison u) = None
+answer_now s f c (host_call.Unpoison u) = Some told.Done
+answer_now s f c (host_call.Block u) = Some told.Done
+answer_now s f c (host_call.Unblock u) = Some told.Done
+answer_now s f c host_call.Serve = None
+answer_now s f c host_call.Down = if f.down then Some (told.Code (Fault ESHUTDOWN)) else None
+answer_now s f c host_call.Up = Some told.Done
+answer_now s f c host_call.Absent = Some (told.Code (Fault ENODEV))
+answer_now s f c host_call.Other = None
 
 -- one call of thread i: what it is with its answers, and how far the run is then, before the call is counted
-pub data Makes (s : Scene) (f : Progress) (i : ℕ) (c : Call) : Doing → Progress → Type 0 where
-  at_once : (answer : CallAnswer) → answer_now s f c (deed_of s c) ≡ Some answer
-      → Makes s f i c (doing f i c answer [] []) (adds f (call_entries s (doing f i c answer [] [])))
-  served : (m e : Progress) → deed_of s c ≡ deed.Serve → GivesBack s (woken f) m → IsIdle s m e → Makes s f i c (doing f i c told.Nothing [] []) e
-  killed : (u : ℕ) (m : Progress) → deed_of s c ≡ deed.Kill u → WaitsFor s u (killing (pass_of s i) u f) m
-      → Makes s f i c (doing f i c (told.Buffer (state_of m.history u).rest) (unlinking (state_of f.history u) ∷ []) [])
+pub data Makes (s : Scene) (f : Progress) (i : ℕ) (c : Call) : CallRecord → Progress → Type 0 where
+  at_once : (answer : CallAnswer) → answer_now s f c (host_call_of s c) ≡ Some answer
+      → Makes s f i c (call_record f i c answer [] []) (adds f (call_entries s (call_record f i c answer [] [])))
+  served : (m e : Progress) → host_call_of s c ≡ host_call.Serve → GivesBack s (woken f) m → IsIdle s m e → Makes s f i c (call_record f i c told.Nothing [] []) e
+  killed : (u : ℕ) (m : Progress) → host_call_of s c ≡ host_call.Kill u → WaitsFor s u (killing (pass_of s i) u f) m
+      → Makes s f i c (call_record f i c (told.Buffer (state_of m.history u).rest) (unlinking (state_of f.history u) ∷ []) [])
       (adds m (claim_entries (pass_of s i) u (state_of m.history u).rest ++ unblock_entries (pass_of s i) u))
-  poisoned : (u : ℕ) (m : Progress) → deed_of s c ≡ deed.Poison u → WaitsFor s u (killing (pass_of s i) u f) m
-      → Makes s f i c (doing f i c (told.Buffer (state_of m.history u).rest) (unlinking (state_of f.history u) ∷ []) [])
+  poisoned : (u : ℕ) (m : Progress) → host_call_of s c ≡ host_call.Poison u → WaitsFor s u (killing (pass_of s i) u f) m
+      → Makes s f i c (call_record f i c (told.Buffer (state_of m.history u).rest) (unlinking (state_of f.history u) ∷ []) [])
       (adds m (claim_entries (pass_of s i) u (state_of m.history u).rest))
-  shut_down : (rests : List (Option ℕ)) (m : Progress) → deed_of s c ≡ deed.Down → f.down ≡ false
+  shut_down : (rests : List (Option ℕ)) (m : Progress) → host_call_of s c ≡ host_call.Down → f.down ≡ false
       → ClaimsEach s (pass_of s i) (shutting s (pass_of s i) f) (urbs_of s) rests m
-      → Makes s f i c (doing f i c told.Done (shut_marks s (pass_of s i) f) rests) m
+      → Makes s f i c (call_record f i c told.Done (shut_marks s (pass_of s i) f) rests) m
 
 -- the run after some calls
 pub data IsLine (s : Scene) : Progress → Type 0 where
   start : IsLine s (begun s)
-  call : (f m : Progress) (i : ℕ) (c : Call) (d : Doing) → IsLine s f → i < length s.threads → Makes s f i c d m → IsLine s (with_doing s m d)
+  call : (f m : Progress) (i : ℕ) (c : Call) (d : CallRecord) → IsLine s f → i < length s.threads → Makes s f i c d m → IsLine s (with_call_record s m d)
 
 -- main kills each URB in rising number
 pub data Closes (s : Scene) (f : Progress) : List ℕ → Progress → Type 0 where
@@ -272,6 +272,6 @@ pub record IsLineRun (s : Scene) (f : Progress) : Type 0 where
   pub called : Progress
   pub killed : Progress
   pub in_line : IsLine s called
-  pub all : map (λ d. (d.thread, d.call)) called.doings ≡ calls_of s
+  pub all : map (λ d. (d.thread, d.call)) called.call_records ≡ calls_of s
   pub closes : Closes s called (urbs_of s) killed
   pub seen : f ≡ adds killed (flat_map (seen_quiet (main_pass s)) (urbs_of s))

@@ -13,7 +13,7 @@ use Rattle.usb_types.specs.declared.urb.UrbId.{UrbId}
 use Rattle.usb_types.specs.declared.urb.Role.TheVariants.{Ctl}
 use Rattle.usb_bind.specs.Board.{urb_of_role}
 use Rattle.usb_line.specs.Prepared.{is_numbered_by, owner_of, again_of}
-use Rattle.usb_line.specs.Given.{IsReceived}
+use Rattle.usb_line.specs.GivebackRow.{IsReceived}
 
 -- an endpoint where nothing waits
 pub record IsNewEnd (shape : Shape) (end : EndRow) : Type 0 where

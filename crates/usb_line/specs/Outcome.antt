@@ -8,12 +8,12 @@ use Rattle.usb_line.specs.declared.run.EndReceived.{EndReceived}
 use Rattle.usb_line.specs.declared.line.LineOutcome.{LineOutcome}
 use Rattle.usb_prepare.specs.Ends.{ends_of, shape_at}
 use Rattle.usb_prepare.specs.Below.{below}
-use Rattle.usb_line.specs.Run.{Doing, Giveback, drivers_told}
-use Rattle.usb_line.specs.Given.{given_of, acked_at}
+use Rattle.usb_line.specs.Run.{CallRecord, Giveback, drivers_told}
+use Rattle.usb_line.specs.GivebackRow.{giveback_row, acked_at}
 use Rattle.usb_line.specs.Line.{Progress, IsLineRun}
 
 -- what is kept of a call that was made
-abbrev pub made_of : Doing → CallMade
+abbrev pub made_of : CallRecord → CallMade
 made_of d = record { thread = d.thread; line = d.call.line; code = d.call.code; target = d.call.target; answer = d.answer }
 
 -- how many bytes these are, and the first 64
@@ -32,7 +32,7 @@ end_of s rounds e = record { shape = shape_at s e; received = received_of (acked
 pub record IsOutcome (s : Scene) (o : LineOutcome) : Type 0 where
   pub far : Progress
   pub line : IsLineRun s far
-  pub made : o.made ≡ map made_of far.doings
-  pub given : o.given ≡ map (given_of s) far.rounds
+  pub made : o.made ≡ map made_of far.call_records
+  pub given : o.given ≡ map (giveback_row s) far.rounds
   pub told : o.told ≡ drivers_told s far.rounds
   pub ends : o.ends ≡ map (end_of s far.rounds) (below (ends_of s))

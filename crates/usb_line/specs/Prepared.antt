@@ -16,7 +16,7 @@ use Rattle.usb_bind.specs.Board.{BoardValue, is_binding_of, urb_of_role}
 use Rattle.usb_class.specs.Roles.{role_in, kept_size, has_number}
 use Rattle.usb_class.specs.Calls.{urb_for, setup_for, payload_for, window_for}
 use Rattle.usb_class.specs.Origin.{Origin}
-use Rattle.usb_class.specs.Asking.{question_by}
+use Rattle.usb_class.specs.Questions.{question_by}
 use Rattle.usb_class.specs.Handler.{is_ctl}
 use Rattle.usb_scene.specs.declared.scene.Scene.{Scene}
 use Rattle.usb_scene.specs.declared.scene.SceneDevice.{SceneDevice}
@@ -30,8 +30,8 @@ use Rattle.usb_prepare.specs.Ends.{shape_at}
 use Rattle.usb_prepare.specs.Prepared.{probes_of, bindings_of, ids_of}
 use Rattle.usb_prepare.specs.Layout.{layout_of, home, role_urb}
 use Rattle.usb_line.specs.declared.owner.Owner.{Owner}
-use Rattle.usb_line.specs.declared.made.Deed.{Deed}
-use Rattle.usb_line.specs.declared.made.Deed.TheVariants as deed
+use Rattle.usb_line.specs.declared.made.HostCall.{HostCall}
+use Rattle.usb_line.specs.declared.made.HostCall.TheVariants as host_call
 
 -- the thread with this name has the hub's pass
 abbrev pub is_hub : SceneThread → Bool
@@ -112,21 +112,21 @@ unfoldable pub origin_of : Scene → ℕ → Origin
 origin_of s k = origin_by s k (slice_get (bindings_of s) k)
 
 -- a question of a driver: the URB that it is asked with, and the transfer
-pub record Asking : Type 0 where
+pub record Question : Type 0 where
   pub urb : ℕ
   pub transfer : Transfer
 
-abbrev pub asking_with : Option UrbId → Option Transfer → Option Asking
-asking_with (Some urb) (Some t) = Some (record { urb = urb.0; transfer = t })
-asking_with _ _ = None
+abbrev pub question_with : Option UrbId → Option Transfer → Option Question
+question_with (Some urb) (Some t) = Some (record { urb = urb.0; transfer = t })
+question_with _ _ = None
 
 -- the question of the driver that has an URB, if it has one. After the URB that it is asked with it asks none
-abbrev pub asking_by : Scene → Option Owner → Option Asking
-asking_by s None = None
-asking_by s (Some o) = if is_ctl o.role then None else asking_with o.ctl (question_by o.driver (origin_of s o.place))
+abbrev pub owner_question : Scene → Option Owner → Option Question
+owner_question s None = None
+owner_question s (Some o) = if is_ctl o.role then None else question_with o.ctl (question_by o.driver (origin_of s o.place))
 
-unfoldable pub asking_of : Scene → ℕ → Option Asking
-asking_of s u = asking_by s (owner_of s u)
+unfoldable pub question_at : Scene → ℕ → Option Question
+question_at s u = owner_question s (owner_of s u)
 
 -- so many bytes to be read
 abbrev pub reading : ℕ → ℕ → Transfer
@@ -170,46 +170,46 @@ abbrev pub submit_fault : Scene → ℕ → Call → Option Errno
 submit_fault s u c = shape_fault (shape_at s (home s u)) (fresh s u c)
 
 -- what a call with this number in the table of calls does to an URB
-abbrev pub deed_on : ℕ → ℕ → Deed
-deed_on code u =
-    if code == 1 then deed.Submit u
-    else if code == 2 then deed.Unlink u
-    else if code == 3 then deed.Kill u
-    else if code == 4 then deed.Poison u
-    else if code == 5 then deed.Unpoison u
-    else if code == 6 then deed.Block u
-    else if code == 7 then deed.Unblock u
-    else deed.Other
+abbrev pub host_call_on : ℕ → ℕ → HostCall
+host_call_on code u =
+    if code == 1 then host_call.Submit u
+    else if code == 2 then host_call.Unlink u
+    else if code == 3 then host_call.Kill u
+    else if code == 4 then host_call.Poison u
+    else if code == 5 then host_call.Unpoison u
+    else if code == 6 then host_call.Block u
+    else if code == 7 then host_call.Unblock u
+    else host_call.Other
 
 -- and what it does on nothing in particular
-abbrev pub deed_alone : ℕ → Deed
-deed_alone code = if code == 8 then deed.Serve else if code == 21 then deed.Down else if code == 22 then deed.Up else deed.Other
+abbrev pub host_call_alone : ℕ → HostCall
+host_call_alone code = if code == 8 then host_call.Serve else if code == 21 then host_call.Down else if code == 22 then host_call.Up else host_call.Other
 
 -- what it does to an URB of a driver, where there is one
-abbrev pub deed_on_any : ℕ → Option ℕ → Deed
-deed_on_any code None = deed.Absent
-deed_on_any code (Some u) = deed_on code u
+abbrev pub host_call_on_any : ℕ → Option ℕ → HostCall
+host_call_on_any code None = host_call.Absent
+host_call_on_any code (Some u) = host_call_on code u
 
 -- what it does on an interface: it submits an URB of the driver, where there is one
-abbrev pub deed_called : Option ℕ → Deed
-deed_called None = deed.Absent
-deed_called (Some u) = deed.Submit u
+abbrev pub host_call_called : Option ℕ → HostCall
+host_call_called None = host_call.Absent
+host_call_called (Some u) = host_call.Submit u
 
 -- the URB that a call on an interface submits
 abbrev pub called_urb : Scene → ℕ → ℕ → ℕ → Option ℕ
 called_urb s code device interface =
     option_map (λ (u : UrbId). u.0) (option_and_then (urb_for code) (find (is_binding_of device interface) (bindings_of s)))
 
-abbrev pub deed_by : Scene → ℕ → Target → Deed
-deed_by s code target.Nothing = deed_alone code
-deed_by s code (target.Urb u) = deed_on code u
-deed_by s code (target.Role device interface role) = deed_on_any code (role_urb s device interface role)
-deed_by s code (target.Interface device interface) = deed_called (called_urb s code device interface)
-deed_by s code (target.Anchor a) = deed.Other
-deed_by s code (target.Device d) = deed.Other
+abbrev pub host_call_by : Scene → ℕ → Target → HostCall
+host_call_by s code target.Nothing = host_call_alone code
+host_call_by s code (target.Urb u) = host_call_on code u
+host_call_by s code (target.Role device interface role) = host_call_on_any code (role_urb s device interface role)
+host_call_by s code (target.Interface device interface) = host_call_called (called_urb s code device interface)
+host_call_by s code (target.Anchor a) = host_call.Other
+host_call_by s code (target.Device d) = host_call.Other
 
-abbrev pub deed_of : Scene → Call → Deed
-deed_of s c = deed_by s c.code c.target
+abbrev pub host_call_of : Scene → Call → HostCall
+host_call_of s c = host_call_by s c.code c.target
 
 -- the calls of these threads in line order, each with its thread's number, of which the first is i
 abbrev pub calls_from : ℕ → List SceneThread → List (ℕ × Call)

@@ -27,7 +27,7 @@ use Rattle.usb_xfer.specs.declared.packet.Step.TheVariants.{Ended}
 use Rattle.usb_xfer.specs.Moved.{moved, moved_state, IsWhole, question_of}
 use Rattle.usb_class.specs.Done.{Done}
 use Rattle.usb_class.specs.Handler.{action_of, window_by}
-use Rattle.usb_class.specs.Asking.{is_answer}
+use Rattle.usb_class.specs.Questions.{is_answer}
 use Rattle.usb_class.specs.Told.{told_of}
 use Rattle.usb_class.specs.declared.class_core.Told.{Told}
 use Rattle.usb_bind.specs.declared.bound.Bound.{Bound}
@@ -35,8 +35,8 @@ use Rattle.usb_scene.specs.declared.scene.Scene.{Scene}
 use Rattle.usb_scene.specs.declared.scene.SceneThread.{SceneThread}
 use Rattle.usb_scene.specs.declared.scene.Call.{Call}
 use Rattle.usb_line.specs.declared.owner.Owner.{Owner}
-use Rattle.usb_line.specs.declared.made.Deed.{Deed}
-use Rattle.usb_line.specs.declared.made.Deed.TheVariants as deed
+use Rattle.usb_line.specs.declared.made.HostCall.{HostCall}
+use Rattle.usb_line.specs.declared.made.HostCall.TheVariants as host_call
 use Rattle.usb_line.specs.declared.made.CallAnswer.{CallAnswer}
 use Rattle.usb_line.specs.declared.made.CallAnswer.TheVariants as told
 use Rattle.usb_line.specs.declared.made.Outcome.{Outcome}
@@ -45,7 +45,7 @@ use Rattle.usb_prepare.specs.Below.{below}
 use Rattle.usb_prepare.specs.Ends.{shape_at}
 use Rattle.usb_prepare.specs.Layout.{urb_count, home}
 use Rattle.usb_prepare.specs.Prepared.{bindings_of}
-use Rattle.usb_line.specs.Prepared.{machine_of, owner_of, read_of, origin_of, Asking, asking_of, fresh, submit_fault, again_of, deed_of, pass_of, main_pass}
+use Rattle.usb_line.specs.Prepared.{machine_of, owner_of, read_of, origin_of, Question, question_at, fresh, submit_fault, again_of, host_call_of, pass_of, main_pass}
 use Rattle.usb_line.specs.Due.{next_due}
 
 -- all URBs of a scene
@@ -54,7 +54,7 @@ urbs_of s = below (urb_count s)
 
 -- a call that a thread made, with its answer, and with what its entries answered that it does not report: what the marks
 -- of URBs were answered, what rested, and whether the host was down before
-pub record Doing : Type 0 where
+pub record CallRecord : Type 0 where
   pub thread : ℕ
   pub call : Call
   pub answer : CallAnswer
@@ -71,20 +71,20 @@ killed_by f [] = []
 killed_by f (a ∷ answers) = f a
 
 -- the entries of a call with its answers, which are its pass's own
-abbrev pub deed_entries : Scene → ℕ → Call → Deed → CallAnswer → List Code → List (Option ℕ) → Bool → List Entry
-deed_entries s p c (deed.Submit u) (told.Code a) marks rests down = submit_of (submit_fault s u c) p u (fresh s u c) a
-deed_entries s p c (deed.Unlink u) (told.Code a) marks rests down = unlink_entries p u a
-deed_entries s p c (deed.Kill u) (told.Buffer n) marks rests down = killed_by (λ a. kill_entries p u a n) marks
-deed_entries s p c (deed.Poison u) (told.Buffer n) marks rests down = killed_by (λ a. poison_entries p u a n) marks
-deed_entries s p c (deed.Unpoison u) told.Done marks rests down = unblock_entries p u
-deed_entries s p c (deed.Block u) told.Done marks rests down = block_entries p u
-deed_entries s p c (deed.Unblock u) told.Done marks rests down = unblock_entries p u
-deed_entries s p c deed.Down told.Done marks rests down = flush_entries p flag.Down (urbs_of s) marks rests
-deed_entries s p c deed.Up told.Done marks rests true = unflag_entries p flag.Down (urbs_of s)
-deed_entries s p c d a marks rests down = []
+abbrev pub host_call_entries : Scene → ℕ → Call → HostCall → CallAnswer → List Code → List (Option ℕ) → Bool → List Entry
+host_call_entries s p c (host_call.Submit u) (told.Code a) marks rests down = submit_of (submit_fault s u c) p u (fresh s u c) a
+host_call_entries s p c (host_call.Unlink u) (told.Code a) marks rests down = unlink_entries p u a
+host_call_entries s p c (host_call.Kill u) (told.Buffer n) marks rests down = killed_by (λ a. kill_entries p u a n) marks
+host_call_entries s p c (host_call.Poison u) (told.Buffer n) marks rests down = killed_by (λ a. poison_entries p u a n) marks
+host_call_entries s p c (host_call.Unpoison u) told.Done marks rests down = unblock_entries p u
+host_call_entries s p c (host_call.Block u) told.Done marks rests down = block_entries p u
+host_call_entries s p c (host_call.Unblock u) told.Done marks rests down = unblock_entries p u
+host_call_entries s p c host_call.Down told.Done marks rests down = flush_entries p flag.Down (urbs_of s) marks rests
+host_call_entries s p c host_call.Up told.Done marks rests true = unflag_entries p flag.Down (urbs_of s)
+host_call_entries s p c d a marks rests down = []
 
-abbrev pub call_entries : Scene → Doing → List Entry
-call_entries s d = deed_entries s (pass_of s d.thread) d.call (deed_of s d.call) d.answer d.marks d.rests d.down
+abbrev pub call_entries : Scene → CallRecord → List Entry
+call_entries s d = host_call_entries s (pass_of s d.thread) d.call (host_call_of s d.call) d.answer d.marks d.rests d.down
 
 -- a submit whose shape has a fault answers that fault
 abbrev pub IsShapeAnswer : Option Errno → Code → Type 0
@@ -97,35 +97,35 @@ IsDownAnswer true a = a ≡ told.Code (Fault ESHUTDOWN)
 IsDownAnswer false a = a ≡ told.Done
 
 -- an answer of the kind that the call has
-abbrev pub IsAnswered : Scene → Doing → Deed → CallAnswer → Type 0
-IsAnswered s d (deed.Submit u) (told.Code a) = IsShapeAnswer (submit_fault s u d.call) a
-IsAnswered s d (deed.Unlink u) (told.Code a) = Unit {0}
-IsAnswered s d (deed.Kill u) (told.Buffer n) = length d.marks ≡ 1
-IsAnswered s d (deed.Poison u) (told.Buffer n) = length d.marks ≡ 1
-IsAnswered s d (deed.Unpoison u) a = a ≡ told.Done
-IsAnswered s d (deed.Block u) a = a ≡ told.Done
-IsAnswered s d (deed.Unblock u) a = a ≡ told.Done
-IsAnswered s d deed.Serve a = a ≡ told.Nothing
-IsAnswered s d deed.Down a = IsDownAnswer d.down a × (a ≡ told.Done → (length d.marks ≡ urb_count s) × (length d.rests ≡ urb_count s))
-IsAnswered s d deed.Up a = a ≡ told.Done
-IsAnswered s d deed.Absent a = a ≡ told.Code (Fault ENODEV)
+abbrev pub IsAnswered : Scene → CallRecord → HostCall → CallAnswer → Type 0
+IsAnswered s d (host_call.Submit u) (told.Code a) = IsShapeAnswer (submit_fault s u d.call) a
+IsAnswered s d (host_call.Unlink u) (told.Code a) = Unit {0}
+IsAnswered s d (host_call.Kill u) (told.Buffer n) = length d.marks ≡ 1
+IsAnswered s d (host_call.Poison u) (told.Buffer n) = length d.marks ≡ 1
+IsAnswered s d (host_call.Unpoison u) a = a ≡ told.Done
+IsAnswered s d (host_call.Block u) a = a ≡ told.Done
+IsAnswered s d (host_call.Unblock u) a = a ≡ told.Done
+IsAnswered s d host_call.Serve a = a ≡ told.Nothing
+IsAnswered s d host_call.Down a = IsDownAnswer d.down a × (a ≡ told.Done → (length d.marks ≡ urb_count s) × (length d.rests ≡ urb_count s))
+IsAnswered s d host_call.Up a = a ≡ told.Done
+IsAnswered s d host_call.Absent a = a ≡ told.Code (Fault ENODEV)
 IsAnswered s d _ a = ⊥
 
 -- a call of a thread that is there, with an answer of its kind
-pub record IsMade (s : Scene) (d : Doing) : Type 0 where
+pub record IsMade (s : Scene) (d : CallRecord) : Type 0 where
   pub thread : d.thread < length s.threads
-  pub answered : IsAnswered s d (deed_of s d.call) d.answer
+  pub answered : IsAnswered s d (host_call_of s d.call) d.answer
 
 -- whether the host is down after a call
-abbrev pub down_after : Bool → Deed → CallAnswer → Bool
-down_after b deed.Down told.Done = true
-down_after b deed.Up a = false
+abbrev pub down_after : Bool → HostCall → CallAnswer → Bool
+down_after b host_call.Down told.Done = true
+down_after b host_call.Up a = false
 down_after b d a = b
 
 -- each call found the host as the calls before it left it
-abbrev pub AreDowns : Scene → Bool → List Doing → Type 0
+abbrev pub AreDowns : Scene → Bool → List CallRecord → Type 0
 AreDowns s b [] = Unit {0}
-AreDowns s b (d ∷ ds) = (d.down ≡ b) × AreDowns s (down_after b (deed_of s d.call) d.answer) ds
+AreDowns s b (d ∷ ds) = (d.down ≡ b) × AreDowns s (down_after b (host_call_of s d.call) d.answer) ds
 
 -- an episode that is over: its URB, its status, whether its transfer's result is the status, the transfer that was sent,
 -- the replies that moved it, and what the handler did
@@ -159,18 +159,18 @@ abbrev pub rest_entry : ℕ → Transfer → Entry
 rest_entry u t = entry SERVER (Rest record { 0 = u } t.number) Nothing (Some t)
 
 -- a driver's question is submitted, where the endpoint takes it
-abbrev pub asked_entries : Scene → Option Asking → Code → List Entry
+abbrev pub asked_entries : Scene → Option Question → Code → List Entry
 asked_entries s None code = []
 asked_entries s (Some a) code = submit_of (shape_fault (shape_at s (home s a.urb)) a.transfer) SERVER a.urb a.transfer code
 
 -- the handler rests the transfer, or submits it again and rests it where that is refused, or rests it and asks its driver's question
-abbrev pub handled_by : Scene → ℕ → Transfer → Transfer → Option Asking → Outcome → List Entry
+abbrev pub handled_by : Scene → ℕ → Transfer → Transfer → Option Question → Outcome → List Entry
 handled_by s u back again asking outcome.Rest = rest_entry u back ∷ []
 handled_by s u back again asking (outcome.Again code) = submit_entries SERVER u again code ++ (if is_zero code then [] else rest_entry u again ∷ [])
 handled_by s u back again asking (outcome.Asked code) = rest_entry u back ∷ asked_entries s asking code
 
 abbrev pub handler_entries : Scene → Giveback → List Entry
-handler_entries s r = handled_by s r.urb (moved_in s r) (resent s r) (asking_of s r.urb) r.outcome ++ plain_entry SERVER (End record { 0 = r.urb }) ∷ []
+handler_entries s r = handled_by s r.urb (moved_in s r) (resent s r) (question_at s r.urb) r.outcome ++ plain_entry SERVER (End record { 0 = r.urb }) ∷ []
 
 -- the server finishes the URB where no mark stood, and gives it back
 abbrev pub given_entries : ℕ → Code → Bool → List Entry
@@ -221,7 +221,7 @@ abbrev pub question_out : Scene → List Giveback → Option Owner → Bool
 question_out s rounds o = option_map_or (λ (o : Owner). is_out s o.place rounds) o false
 
 -- a driver asks where it has a question that is not out, and else rests
-abbrev pub asks_or_rests : Option Asking → Bool → Action → Action
+abbrev pub asks_or_rests : Option Question → Bool → Action → Action
 asks_or_rests (Some asking) false action.Ask = action.Ask
 asks_or_rests asking out action.Ask = action.Rest
 asks_or_rests asking out act = act
@@ -229,7 +229,7 @@ asks_or_rests asking out act = act
 -- what the next handler of URB u does with a transfer that came back with this status
 abbrev pub acts : Scene → List Giveback → ℕ → Code → Transfer → Action
 acts s before u status t =
-    asks_or_rests (asking_of s u) (question_out s before (owner_of s u)) (action_by (owner_of s u) (may_again s before u) status t)
+    asks_or_rests (question_at s u) (question_out s before (owner_of s u)) (action_by (owner_of s u) (may_again s before u) status t)
 
 abbrev pub IsHandled : Action → Outcome → Type 0
 IsHandled (action.Again from len) (outcome.Again code) = Unit {0}
@@ -265,8 +265,8 @@ is_aside (Finish u c) a = not (finishes a)
 is_aside _ a = false
 
 -- the calls that a thread made
-abbrev pub done_by : ℕ → List Doing → List Doing
-done_by i doings = filter (λ d. d.thread == i) doings
+abbrev pub done_by : ℕ → List CallRecord → List CallRecord
+done_by i call_records = filter (λ d. d.thread == i) call_records
 
 -- the givebacks of an endpoint
 abbrev pub rounds_at : Scene → ℕ → List Giveback → List Giveback
@@ -343,17 +343,17 @@ pub record IsOver (s : Scene) (h : List Entry) : Type 0 where
   pub ends : (e : ℕ) → (line_of (machine_of s) h e ≡ []) × (pending_of (machine_of s) h e ≡ [])
 
 -- the history is one of this scene, with these calls and answers, and these givebacks
-pub record IsRun (s : Scene) (h : List Entry) (doings : List Doing) (rounds : List Giveback) : Type 0 where
+pub record IsRun (s : Scene) (h : List Entry) (call_records : List CallRecord) (rounds : List Giveback) : Type 0 where
   -- each entry may come where it stands, and has the machine's answer
   pub legal : IsLegal (machine_of s) h
   pub over : IsOver s h
   -- each call is one of a thread, has its answer, and found the host as it was left
-  pub told : All (IsMade s) doings
-  pub downs : AreDowns s false doings
+  pub told : All (IsMade s) call_records
+  pub downs : AreDowns s false call_records
   -- each thread made the calls of its script, each once and in order
-  pub calls : (i : ℕ) (thread : SceneThread) → slice_get s.threads i ≡ Some thread → map (λ d. d.call) (done_by i doings) ≡ thread.calls
+  pub calls : (i : ℕ) (thread : SceneThread) → slice_get s.threads i ≡ Some thread → map (λ d. d.call) (done_by i call_records) ≡ thread.calls
   -- a thread's part of the history is the entries of its calls with their answers
-  pub threads : (i : ℕ) → i < length s.threads → part_of h (pass_of s i) ≡ flat_map (call_entries s) (done_by i doings)
+  pub threads : (i : ℕ) → i < length s.threads → part_of h (pass_of s i) ≡ flat_map (call_entries s) (done_by i call_records)
   pub framed : IsFramed s h
   -- the server takes and finds marks, and beside this it gives back and handles one URB after another
   pub server : filter (λ x. not (is_aside x.event x.answer)) (part_of h SERVER) ≡ flat_map (giveback_entries s) rounds

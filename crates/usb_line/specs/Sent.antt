@@ -10,7 +10,7 @@ use Rattle.usb_machine.specs.Calls.{submit_entries}
 use Rattle.usb_scene.specs.declared.scene.Scene.{Scene}
 use Rattle.usb_scene.specs.declared.scene.SceneUrb.{SceneUrb}
 use Rattle.usb_scene.specs.declared.scene.Call.{Call}
-use Rattle.usb_line.specs.declared.made.Deed.TheVariants as deed
+use Rattle.usb_line.specs.declared.made.HostCall.TheVariants as host_call
 use Rattle.usb_line.specs.declared.run.UrbRow.{UrbRow}
 use Rattle.usb_line.specs.declared.run.LineRun.{LineRun}
 use Rattle.usb_prepare.specs.Layout.{home}
@@ -55,7 +55,7 @@ pub record CanSubmit (run : LineRun) (p u : ℕ) (said : Said) (c : Call) : Type
   pub scene : Scene
   pub far : Progress
   pub thread : ℕ
-  pub may : MayMake scene far thread c run p (deed.Submit u)
+  pub may : MayMake scene far thread c run p (host_call.Submit u)
   pub is : said_of (slice_get scene.urbs u) ≡ said
 
 -- the transfer is in the row of URB u, and nothing else changed

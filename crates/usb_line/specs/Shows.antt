@@ -31,7 +31,7 @@ use Rattle.usb_line.specs.Prepared.{machine_of, owner_of, again_of, origin_of}
 use Rattle.usb_line.specs.Run.{times_back, Giveback, done_at, is_out, asked_of}
 use Rattle.usb_line.specs.Between.{IsCalm, AllLinked, IsBare}
 use Rattle.usb_line.specs.Due.{is_ruled, heard_before}
-use Rattle.usb_line.specs.Given.{given_of, acked_at, IsReceived}
+use Rattle.usb_line.specs.GivebackRow.{giveback_row, acked_at, IsReceived}
 use Rattle.usb_line.specs.Line.{Progress, asked_so_far, replies_had, Gives, GivesBack, IsIdle, woken}
 
 -- URB u may have this transfer: its home is asked at its own address, the transfer halts no endpoint of a device that isn't
@@ -113,7 +113,7 @@ pub record Shows (s : Scene) (f : Progress) (run : LineRun) : Type 0 where
   pub each_urb : (u : ℕ) (row : UrbRow) → slice_get run.urbs.items u ≡ Some row → ShowsUrb s f u row
   pub unmoved : (e : ℕ) → pending_of (machine_of s) f.history e ≡ [] → f.so_far e ≡ []
   pub cores : ShowsCores s f.rounds run.cores.items
-  pub came_back : run.given ≡ map (given_of s) f.rounds
+  pub came_back : run.given ≡ map (giveback_row s) f.rounds
   pub host : run.down ≡ f.down
 
 -- the object shows some progress of a scene

@@ -6,7 +6,7 @@ ghost use Rattle.usb_scene.specs.declared.scene.Scene.{Scene};
 ghost use Rattle.usb_scene.specs.declared.scene.Call.{Call};
 ghost use Rattle.usb_scene.specs.WellFormed.{IsWellFormed};
 ghost use Rattle.usb_prepare.specs.Layout.{urb_count};
-ghost use Rattle.usb_line.specs.declared.made.Deed.TheVariants as deed;
+ghost use Rattle.usb_line.specs.declared.made.HostCall.TheVariants as host_call;
 ghost use Rattle.usb_line.specs.Line.{Progress, shutting};
 ghost use Rattle.usb_line.specs.Shows.{IsShown, Shows};
 ghost use Rattle.usb_line.specs.Calls.{MayMake, CanMake, Made, IsShut, CanClaim, Claimed};
@@ -52,8 +52,8 @@ impl LineRun<'_> {
 
     /// Takes the host down, where it is not.
     pub fn take_down(&mut self, alloc: Global) -> Result<CallAnswer, Memory>
-        requires { CanMake self.old HUB deed.Down }
-        ensures { IfOk result (λ told. (s : Scene) (f : Progress) (i : ℕ) (c : Call) → MayMake s f i c self.old HUB deed.Down → Made s f i c told self.new) }
+        requires { CanMake self.old HUB host_call.Down }
+        ensures { IfOk result (λ told. (s : Scene) (f : Progress) (i : ℕ) (c : Call) → MayMake s f i c self.old HUB host_call.Down → Made s f i c told self.new) }
     {
         if self.down {
             return Ok(CallAnswer::Code(Code::Fault(Errno::ESHUTDOWN)));
@@ -67,8 +67,8 @@ impl LineRun<'_> {
 
     /// Takes the flag off, where the host is down.
     pub fn bring_up(&mut self) -> CallAnswer
-        requires { CanMake self.old HUB deed.Up }
-        ensures { (s : Scene) (f : Progress) (i : ℕ) (c : Call) → MayMake s f i c self.old HUB deed.Up → Made s f i c result self.new }
+        requires { CanMake self.old HUB host_call.Up }
+        ensures { (s : Scene) (f : Progress) (i : ℕ) (c : Call) → MayMake s f i c self.old HUB host_call.Up → Made s f i c result self.new }
     {
         if !self.down {
             return CallAnswer::Done;

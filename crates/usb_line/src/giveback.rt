@@ -8,14 +8,14 @@ ghost use Rattle.usb_line.specs.declared.run.UrbRow.{UrbRow};
 ghost use Rattle.usb_line.specs.Prepared.{machine_of};
 ghost use Rattle.usb_line.specs.Run.{Giveback, given_entries};
 ghost use Rattle.usb_line.specs.Steps.{AsMany};
-ghost use Rattle.usb_line.specs.Back.{is_again, CanNote, Noted, CanAsk, CanInquire, InquiryBy, PosesInquiry, CanSettle, Settled, Finished, Acted, Resubmitted, Given as Gives, Handled, GaveBack};
+ghost use Rattle.usb_line.specs.Back.{is_again, CanNote, Noted, CanAsk, CanPoseQuestion, QuestionBy, PosesQuestion, CanSettle, Settled, Finished, Acted, Resubmitted, GaveStatus, Handled, GaveBack};
 
-use crate::made::{Given, Outcome};
+use crate::made::{GivebackRow, Outcome};
 use crate::owner::Owner;
 use crate::received::{brought, left_with};
 use crate::run::{LineRun, UrbRow};
 use crate::steps::{code_in, enter};
-use crate::submit::ask;
+use crate::submit::submit_and_link;
 use std::alloc::Global;
 use usb_class::goes_again;
 use usb_machine::{Event, Plain, SERVER, Transfer};
@@ -32,11 +32,11 @@ fn finish(plain: &mut Plain, urb: UrbId, ended: Option<Code>)
     }
 }
 
-// Gives the URB back, whose transfer ended with a code or was unlinked. Answers the status.
+// GaveStatus the URB back, whose transfer ended with a code or was unlinked. Answers the status.
 fn give(plain: &mut Plain, urb: UrbId, ended: Option<Code>) -> Code
     requires { urb.0 < urbs_of plain.old }
     ensures counts { AsMany plain.old plain.new }
-    ensures given { Gives plain.old plain.new urb.0 ended result }
+    ensures given { GaveStatus plain.old plain.new urb.0 ended result }
 {
     finish(plain, urb, ended);
     code_in(enter(plain, SERVER, Event::Give { urb }))
@@ -60,7 +60,7 @@ fn resubmit(plain: &mut Plain, urb: UrbId, number: u64) -> Code
 /// A driver-initiated transfer about to be submitted (printer: GET_PORT_STATUS): the place of its binding, the URB that it is
 /// asked with, its transfer, and why the URB's endpoint does not take it, if it does not.
 #[derive(Drop)]
-pub struct Inquiry {
+pub struct PosedQuestion {
     pub place: u32,
     pub urb: UrbId,
     pub transfer: Transfer,
@@ -68,15 +68,15 @@ pub struct Inquiry {
 }
 
 // Asks a question of a driver, where its endpoint takes it. Answers the fault, or what the gate says.
-fn pose(plain: &mut Plain, inquiry: &Inquiry) -> Code
-    requires { inquiry.now.urb.0 < urbs_of plain.old }
+fn pose(plain: &mut Plain, posed_question: &PosedQuestion) -> Code
+    requires { posed_question.now.urb.0 < urbs_of plain.old }
     ensures counts { AsMany plain.old plain.new }
-    ensures asked { PosesInquiry plain.old plain.new inquiry.now result }
+    ensures asked { PosesQuestion plain.old plain.new posed_question.now result }
 {
-    if let Some(errno) = inquiry.fault {
+    if let Some(errno) = posed_question.fault {
         return Code::Fault(errno);
     }
-    ask(plain, SERVER, inquiry.urb, inquiry.transfer.number)
+    submit_and_link(plain, SERVER, posed_question.urb, posed_question.transfer.number)
 }
 
 // What the handler does: it submits the transfer with this number again, or rests it, and asks a question where there is one.
@@ -85,19 +85,19 @@ fn act(
     urb: UrbId,
     again: bool,
     number: u64,
-    inquiry: &Option<Inquiry>,
+    posed_question: &Option<PosedQuestion>,
 ) -> Outcome
     requires known { urb.0 < urbs_of plain.old }
-    requires asks { IfSome inquiry.now (λ q. q.urb.0 < urbs_of plain.old) }
+    requires asks { IfSome posed_question.now (λ q. q.urb.0 < urbs_of plain.old) }
     ensures counts { AsMany plain.old plain.new }
-    ensures acted { Acted plain.old plain.new urb.0 again number inquiry.now result }
+    ensures acted { Acted plain.old plain.new urb.0 again number posed_question.now result }
 {
     if again {
         return Outcome::Again(resubmit(plain, urb, number));
     }
     enter(plain, SERVER, Event::Rest { urb, number });
-    match inquiry {
-        Some(inquiry) => Outcome::Asked(pose(plain, inquiry)),
+    match posed_question {
+        Some(posed_question) => Outcome::Asked(pose(plain, posed_question)),
         None => Outcome::Rest,
     }
 }
@@ -108,14 +108,14 @@ fn handle(
     urb: UrbId,
     again: bool,
     number: u64,
-    inquiry: &Option<Inquiry>,
+    posed_question: &Option<PosedQuestion>,
 ) -> Outcome
     requires known { urb.0 < urbs_of plain.old }
-    requires asks { IfSome inquiry.now (λ q. q.urb.0 < urbs_of plain.old) }
+    requires asks { IfSome posed_question.now (λ q. q.urb.0 < urbs_of plain.old) }
     ensures counts { AsMany plain.old plain.new }
-    ensures handled { Handled plain.old plain.new urb.0 again number inquiry.now result }
+    ensures handled { Handled plain.old plain.new urb.0 again number posed_question.now result }
 {
-    let outcome = act(plain, urb, again, number, inquiry);
+    let outcome = act(plain, urb, again, number, posed_question);
     enter(plain, SERVER, Event::End { urb });
     outcome
 }
@@ -146,10 +146,10 @@ impl LineRun<'_> {
     }
 
     // The question of the driver that has the URB, where the action asks one that is not out.
-    fn inquiry(&mut self, owner: Option<Owner>, action: Action) -> Option<Inquiry>
-        requires core { CanInquire self.old.cores.items owner }
+    fn posed_question(&mut self, owner: Option<Owner>, action: Action) -> Option<PosedQuestion>
+        requires core { CanPoseQuestion self.old.cores.items owner }
         requires near { CanAsk self.old owner }
-        ensures asked { InquiryBy self.old self.new owner action result }
+        ensures asked { QuestionBy self.old self.new owner action result }
         ensures rest { self.new ≡ record self.old { cores = self.new.cores } }
     {
         let (Action::Ask, Some(owner)) = (action, owner) else {
@@ -157,7 +157,7 @@ impl LineRun<'_> {
         };
         let urb = owner.ctl?;
         let transfer = self.cores[owner.place as usize].ask()?;
-        Some(Inquiry {
+        Some(PosedQuestion {
             place: owner.place,
             urb,
             fault: self.fault(urb, &transfer),
@@ -166,22 +166,22 @@ impl LineRun<'_> {
     }
 
     // Keeps the transfer of a question that was accepted with its URB, and gives back one that was not.
-    fn settle(&mut self, inquiry: Option<Inquiry>, outcome: Outcome)
-        requires { CanSettle self.old inquiry }
-        ensures settled { Settled self.old self.new inquiry outcome }
+    fn settle(&mut self, posed_question: Option<PosedQuestion>, outcome: Outcome)
+        requires { CanSettle self.old posed_question }
+        ensures settled { Settled self.old self.new posed_question outcome }
     {
-        let Some(inquiry) = inquiry else {
+        let Some(posed_question) = posed_question else {
             return;
         };
         if let Outcome::Asked(Code::Zero) = outcome {
-            self.urbs[inquiry.urb.0 as usize].transfer = Some(inquiry.transfer);
+            self.urbs[posed_question.urb.0 as usize].transfer = Some(posed_question.transfer);
         } else {
-            self.cores[inquiry.place as usize].unask(inquiry.transfer);
+            self.cores[posed_question.place as usize].unask(posed_question.transfer);
         }
     }
 
-    /// Gives the URB back with its transfer, which ended with a code or was unlinked, and runs its handler.
-    pub fn bring_back(
+    /// GaveStatus the URB back with its transfer, which ended with a code or was unlinked, and runs its handler.
+    pub fn give_back(
         &mut self,
         alloc: Global,
         urb: u32,
@@ -200,18 +200,18 @@ impl LineRun<'_> {
         let (home, owner, again) = (row.home, row.owner, row.again);
         let status = give(&mut self.plain, UrbId(urb), ended);
         let action = self.decide(owner, again > 0, status, &t)?;
-        let inquiry = self.inquiry(owner, action);
+        let posed_question = self.posed_question(owner, action);
         let outcome = handle(
             &mut self.plain,
             UrbId(urb),
             goes_again(action),
             t.number,
-            &inquiry,
+            &posed_question,
         );
         let shape = self.ends[home as usize].shape;
         let bytes = brought(alloc, &shape, &t)?;
         self.ends[home as usize].received.note(&shape, &t)?;
-        self.given.push(Given {
+        self.given.push(GivebackRow {
             urb,
             status,
             actual: t.actual,
@@ -224,7 +224,7 @@ impl LineRun<'_> {
             again: again.saturating_sub(1),
             transfer: left_with(outcome, action, t),
         };
-        self.settle(inquiry, outcome);
+        self.settle(posed_question, outcome);
         Ok(())
     }
 }

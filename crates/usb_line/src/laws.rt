@@ -7,7 +7,7 @@ ghost use Rattle.usb_line.specs.Line.{Progress, IsLineRun};
 
 /// The run in line order of a well-formed scene is one of its runs.
 pub fn a_run_in_line_order_is_a_run()
-    ensures { (s : Scene) (f : Progress) → IsWellFormed s → IsLineRun s f → IsRun s f.history f.doings f.rounds }
+    ensures { (s : Scene) (f : Progress) → IsWellFormed s → IsLineRun s f → IsRun s f.history f.call_records f.rounds }
 {}
 
 /// A scene has at most one run in line order.

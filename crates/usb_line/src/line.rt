@@ -12,7 +12,7 @@ ghost use Rattle.usb_line.specs.Shows.{ShowsCores};
 ghost use Rattle.usb_line.specs.Calls.{IsUnderway};
 ghost use Rattle.usb_line.specs.Outcome.{received_at, IsOutcome};
 
-use crate::made::{CallMade, Given};
+use crate::made::{CallMade, GivebackRow};
 use crate::prepare::opening;
 use crate::run::{EndReceived, EndRow, LineRun};
 use crate::thread::main_pass_of;
@@ -28,7 +28,7 @@ use usb_types::{Buf, List, Memory};
 #[derive(Drop)]
 pub struct LineOutcome {
     pub made: List<CallMade>,
-    pub given: List<Given>,
+    pub given: List<GivebackRow>,
     /// Of each binding, by its place, what its driver reports.
     pub told: List<Told>,
     /// Of each endpoint, by its number.

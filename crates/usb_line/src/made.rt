@@ -5,7 +5,7 @@ use usb_types::{Buf, Code};
 
 /// What a call of a scene does. URBs are named by their numbers.
 #[derive(Clone, Copy)]
-pub enum Deed {
+pub enum HostCall {
     Submit(u32),
     Unlink(u32),
     Kill(u32),
@@ -58,7 +58,7 @@ pub enum Outcome {
 
 /// What a Give gave back, as the report prints it.
 #[derive(Drop)]
-pub struct Given {
+pub struct GivebackRow {
     /// The URB's number.
     pub urb: u32,
     pub status: Code,

@@ -6,10 +6,10 @@ ghost use Rattle.usb_line.specs.Line.{Progress};
 ghost use Rattle.usb_line.specs.Prepared.{calls_from};
 ghost use Rattle.usb_line.specs.Calls.{MayBeMade, CanBeMade, Made, IsUnderway};
 
-use crate::made::{CallAnswer, CallMade, Deed};
+use crate::made::{CallAnswer, CallMade, HostCall};
 use crate::run::LineRun;
 use crate::submit::said_of;
-use crate::thread::{deed_in, pass_of_thread};
+use crate::thread::{host_call_in, pass_of_thread};
 use std::alloc::Global;
 use usb_bind::Bound;
 use usb_scene::{Call, Scene};
@@ -30,22 +30,22 @@ impl LineRun<'_> {
         ensures { IfOk result (λ told. (f : Progress) → MayBeMade scene.now f thread call.now self.old → Made scene.now f thread call.now told self.new) }
     {
         let pass = pass_of_thread(scene, thread);
-        match deed_in(bindings, call) {
-            Deed::Submit(urb) => {
+        match host_call_in(bindings, call) {
+            HostCall::Submit(urb) => {
                 let said = said_of(scene.urbs.items(), urb);
                 self.submit(alloc, pass, UrbId(urb), said, call)
             }
-            Deed::Unlink(urb) => Ok(self.unlink(pass, UrbId(urb))),
-            Deed::Kill(urb) => self.kill(alloc, pass, UrbId(urb)),
-            Deed::Poison(urb) => self.poison(alloc, pass, UrbId(urb)),
-            Deed::Unpoison(urb) => Ok(self.unpoison(pass, UrbId(urb))),
-            Deed::Block(urb) => Ok(self.block(pass, UrbId(urb))),
-            Deed::Unblock(urb) => Ok(self.unblock(pass, UrbId(urb))),
-            Deed::Serve => self.serve_all(alloc),
-            Deed::Down => self.take_down(alloc),
-            Deed::Up => Ok(self.bring_up()),
-            Deed::Absent => Ok(self.refuse()),
-            Deed::Other => Ok(CallAnswer::Nothing),
+            HostCall::Unlink(urb) => Ok(self.unlink(pass, UrbId(urb))),
+            HostCall::Kill(urb) => self.kill(alloc, pass, UrbId(urb)),
+            HostCall::Poison(urb) => self.poison(alloc, pass, UrbId(urb)),
+            HostCall::Unpoison(urb) => Ok(self.unpoison(pass, UrbId(urb))),
+            HostCall::Block(urb) => Ok(self.block(pass, UrbId(urb))),
+            HostCall::Unblock(urb) => Ok(self.unblock(pass, UrbId(urb))),
+            HostCall::Serve => self.serve_all(alloc),
+            HostCall::Down => self.take_down(alloc),
+            HostCall::Up => Ok(self.bring_up()),
+            HostCall::Absent => Ok(self.refuse()),
+            HostCall::Other => Ok(CallAnswer::Nothing),
         }
     }
 

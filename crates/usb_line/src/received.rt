@@ -2,7 +2,7 @@
 ghost use Rattle.std.specs.Prelude.{◌≡◌, not, ◌&&◌, IfOk, OnOk};
 ghost use Rattle.usb_machine.specs.Shapes.{HasWindow};
 ghost use Rattle.usb_xfer.specs.Direction.{goes_in, setup_in, is_control, direction_of};
-ghost use Rattle.usb_line.specs.Given.{moved_bytes, comes_in, brought_bytes, sent_bytes};
+ghost use Rattle.usb_line.specs.GivebackRow.{moved_bytes, comes_in, brought_bytes, sent_bytes};
 ghost use Rattle.usb_line.specs.Back.{left_by, Adds};
 
 use crate::made::Outcome;

@@ -1,6 +1,6 @@
 //! A run in line order, as far as it has come.
 
-use crate::made::Given;
+use crate::made::GivebackRow;
 use crate::owner::Owner;
 use usb_class::Core;
 use usb_device::Scripted;
@@ -54,7 +54,7 @@ pub struct LineRun<'a> {
     pub urbs: Vec<UrbRow>,
     /// Of each binding, by its place, the core of its driver.
     pub cores: Vec<Core>,
-    pub given: List<Given>,
+    pub given: List<GivebackRow>,
     /// Whether the host is down.
     pub down: bool,
 }

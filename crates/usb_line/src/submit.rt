@@ -11,7 +11,7 @@ ghost use Rattle.usb_scene.specs.declared.scene.Scene.{Scene};
 ghost use Rattle.usb_scene.specs.WellFormed.{IsWellFormed};
 ghost use Rattle.usb_line.specs.declared.run.UrbRow.{UrbRow};
 ghost use Rattle.usb_line.specs.declared.run.EndRow.{EndRow};
-ghost use Rattle.usb_line.specs.declared.made.Deed.TheVariants as deed;
+ghost use Rattle.usb_line.specs.declared.made.HostCall.TheVariants as host_call;
 ghost use Rattle.usb_prepare.specs.Ends.{shape_at};
 ghost use Rattle.usb_prepare.specs.Layout.{home};
 ghost use Rattle.usb_line.specs.Prepared.{machine_of, buffer_of, setup_by, payload_by, window_by};
@@ -131,7 +131,7 @@ fn transfer(said: Said, call: &Call, buf: Buf) -> Transfer
 }
 
 /// Asks the URB's gate, which accepts or refuses submits, and links the URB where it was accepted. Answers what the gate says.
-pub fn ask(plain: &mut Plain, pass: u32, urb: UrbId, number: u64) -> Code
+pub fn submit_and_link(plain: &mut Plain, pass: u32, urb: UrbId, number: u64) -> Code
     requires { urb.0 < urbs_of plain.old }
     ensures counts { AsMany plain.old plain.new }
     ensures asked { (s : Scene) (h : List Entry) (t : Transfer) → Stands plain.old (machine_of s) h → MayAsk s h pass urb.0 t → t.number ≡ number
@@ -171,7 +171,7 @@ impl LineRun<'_> {
         requires there { urb.0 < length self.old.urbs.items }
         ensures { (s : Scene) (f : Progress) → MaySend s f self.old pass urb.0 t → Sent s f pass urb.0 t result self.new }
     {
-        let code = ask(&mut self.plain, pass, urb, t.number);
+        let code = submit_and_link(&mut self.plain, pass, urb, t.number);
         if let Code::Fault(_) = code {
             return code;
         }
@@ -189,7 +189,7 @@ impl LineRun<'_> {
         call: &Call,
     ) -> Result<CallAnswer, Memory>
         requires { CanSubmit self.old pass urb.0 said call.now }
-        ensures { IfOk result (λ told. (s : Scene) (f : Progress) (i : ℕ) → MayMake s f i call.now self.old pass (deed.Submit urb.0) → said_of (slice_get s.urbs urb.0) ≡ said → Made s f i call.now told self.new) }
+        ensures { IfOk result (λ told. (s : Scene) (f : Progress) (i : ℕ) → MayMake s f i call.now self.old pass (host_call.Submit urb.0) → said_of (slice_get s.urbs urb.0) ≡ said → Made s f i call.now told self.new) }
     {
         let t = transfer(said, call, buffer(alloc, said, call)?);
         if let Some(errno) = self.fault(urb, &t) {

@@ -5,9 +5,9 @@ ghost use Rattle.usb_prepare.specs.Prepared.{bindings_of};
 ghost use Rattle.usb_types.specs.declared.urb.UrbId.{UrbId};
 ghost use Rattle.usb_bind.specs.Board.{is_binding_of, urb_of_role};
 ghost use Rattle.usb_class.specs.Calls.{urb_for as urb_of_call};
-ghost use Rattle.usb_line.specs.Prepared.{deed_on, deed_alone, deed_on_any, deed_called as deed_of_called, deed_of, pass_of, main_pass};
+ghost use Rattle.usb_line.specs.Prepared.{host_call_on, host_call_alone, host_call_on_any, host_call_called as host_call_of_called, host_call_of, pass_of, main_pass};
 
-use crate::made::Deed;
+use crate::made::HostCall;
 use usb_bind::Bound;
 use usb_class::urb_for;
 use usb_machine::HUB;
@@ -15,40 +15,40 @@ use usb_scene::{Call, Scene, Target};
 use usb_types::Role;
 
 // What a call with this number in the table of calls does to an URB.
-fn deed_to(code: u32, urb: u32) -> Deed
-    ensures { result ≡ deed_on code urb }
+fn host_call_to(code: u32, urb: u32) -> HostCall
+    ensures { result ≡ host_call_on code urb }
 {
     match code {
-        1 => Deed::Submit(urb),
-        2 => Deed::Unlink(urb),
-        3 => Deed::Kill(urb),
-        4 => Deed::Poison(urb),
-        5 => Deed::Unpoison(urb),
-        6 => Deed::Block(urb),
-        7 => Deed::Unblock(urb),
-        _ => Deed::Other,
+        1 => HostCall::Submit(urb),
+        2 => HostCall::Unlink(urb),
+        3 => HostCall::Kill(urb),
+        4 => HostCall::Poison(urb),
+        5 => HostCall::Unpoison(urb),
+        6 => HostCall::Block(urb),
+        7 => HostCall::Unblock(urb),
+        _ => HostCall::Other,
     }
 }
 
 // And what it does on nothing in particular.
-fn deed_by_itself(code: u32) -> Deed
-    ensures { result ≡ deed_alone code }
+fn host_call_by_itself(code: u32) -> HostCall
+    ensures { result ≡ host_call_alone code }
 {
     match code {
-        8 => Deed::Serve,
-        21 => Deed::Down,
-        22 => Deed::Up,
-        _ => Deed::Other,
+        8 => HostCall::Serve,
+        21 => HostCall::Down,
+        22 => HostCall::Up,
+        _ => HostCall::Other,
     }
 }
 
 // And what it does to an URB of a driver, where there is one.
-fn deed_to_any(code: u32, urb: Option<u32>) -> Deed
-    ensures { result ≡ deed_on_any code urb }
+fn host_call_to_any(code: u32, urb: Option<u32>) -> HostCall
+    ensures { result ≡ host_call_on_any code urb }
 {
     match urb {
-        Some(urb) => deed_to(code, urb),
-        None => Deed::Absent,
+        Some(urb) => host_call_to(code, urb),
+        None => HostCall::Absent,
     }
 }
 
@@ -77,36 +77,36 @@ fn called_urb(code: u32, bound: Option<Bound>) -> Option<u32>
 }
 
 // And what it does there.
-fn deed_called(urb: Option<u32>) -> Deed
-    ensures { result ≡ deed_of_called urb }
+fn host_call_called(urb: Option<u32>) -> HostCall
+    ensures { result ≡ host_call_of_called urb }
 {
     if let Some(urb) = urb {
-        Deed::Submit(urb)
+        HostCall::Submit(urb)
     } else {
-        Deed::Absent
+        HostCall::Absent
     }
 }
 
 /// What a call does.
-pub fn deed_in(bindings: &[Bound], call: &Call) -> Deed
-    ensures { (s : Scene) → bindings.now ≡ bindings_of s → result ≡ deed_of s call.now }
+pub fn host_call_in(bindings: &[Bound], call: &Call) -> HostCall
+    ensures { (s : Scene) → bindings.now ≡ bindings_of s → result ≡ host_call_of s call.now }
 {
     match call.target {
-        Target::Nothing => deed_by_itself(call.code),
-        Target::Urb(urb) => deed_to(call.code, urb),
+        Target::Nothing => host_call_by_itself(call.code),
+        Target::Urb(urb) => host_call_to(call.code, urb),
         Target::Role {
             device,
             interface,
             role,
-        } => deed_to_any(
+        } => host_call_to_any(
             call.code,
             bound_urb(binding_of(bindings, device, interface), role),
         ),
-        Target::Interface { device, interface } => deed_called(called_urb(
+        Target::Interface { device, interface } => host_call_called(called_urb(
             call.code,
             binding_of(bindings, device, interface),
         )),
-        Target::Anchor(_) | Target::Device(_) => Deed::Other,
+        Target::Anchor(_) | Target::Device(_) => HostCall::Other,
     }
 }
 

@@ -78,7 +78,7 @@ impl LineRun<'_> {
         let Some(t) = self.take_out(urb) else {
             return Ok(());
         };
-        self.bring_back(alloc, urb, None, t)?;
+        self.give_back(alloc, urb, None, t)?;
         Ok(())
     }
 
@@ -99,7 +99,7 @@ impl LineRun<'_> {
             self.fall_asleep(ep, urb, t);
             return Ok(false);
         };
-        self.bring_back(alloc, urb, Some(code), t)?;
+        self.give_back(alloc, urb, Some(code), t)?;
         Ok(true)
     }
 

@@ -2,7 +2,7 @@
 ghost use Rattle.std.specs.Prelude.{ℕ, IfOk};
 ghost use Rattle.usb_scene.specs.declared.scene.Scene.{Scene};
 ghost use Rattle.usb_scene.specs.declared.scene.Call.{Call};
-ghost use Rattle.usb_line.specs.declared.made.Deed.TheVariants as deed;
+ghost use Rattle.usb_line.specs.declared.made.HostCall.TheVariants as host_call;
 ghost use Rattle.usb_line.specs.Line.{Progress};
 ghost use Rattle.usb_line.specs.Shows.{IsShown};
 ghost use Rattle.usb_line.specs.Calls.{MayMake, CanMake, Made};
@@ -16,16 +16,16 @@ use usb_types::{Code, Errno, Memory, UrbId, Why};
 impl LineRun<'_> {
     /// Unlinks the URB.
     pub fn unlink(&mut self, pass: u32, urb: UrbId) -> CallAnswer
-        requires { CanMake self.old pass (deed.Unlink urb.0) }
-        ensures { (s : Scene) (f : Progress) (i : ℕ) (c : Call) → MayMake s f i c self.old pass (deed.Unlink urb.0) → Made s f i c result self.new }
+        requires { CanMake self.old pass (host_call.Unlink urb.0) }
+        ensures { (s : Scene) (f : Progress) (i : ℕ) (c : Call) → MayMake s f i c self.old pass (host_call.Unlink urb.0) → Made s f i c result self.new }
     {
         CallAnswer::Code(mark(&mut self.plain, pass, urb, Why::Unlink))
     }
 
     /// Raises a reject.
     pub fn block(&mut self, pass: u32, urb: UrbId) -> CallAnswer
-        requires { CanMake self.old pass (deed.Block urb.0) }
-        ensures { (s : Scene) (f : Progress) (i : ℕ) (c : Call) → MayMake s f i c self.old pass (deed.Block urb.0) → Made s f i c result self.new }
+        requires { CanMake self.old pass (host_call.Block urb.0) }
+        ensures { (s : Scene) (f : Progress) (i : ℕ) (c : Call) → MayMake s f i c self.old pass (host_call.Block urb.0) → Made s f i c result self.new }
     {
         reject(&mut self.plain, pass, urb);
         CallAnswer::Done
@@ -33,8 +33,8 @@ impl LineRun<'_> {
 
     /// Withdraws the reject of a block.
     pub fn unblock(&mut self, pass: u32, urb: UrbId) -> CallAnswer
-        requires { CanMake self.old pass (deed.Unblock urb.0) }
-        ensures { (s : Scene) (f : Progress) (i : ℕ) (c : Call) → MayMake s f i c self.old pass (deed.Unblock urb.0) → Made s f i c result self.new }
+        requires { CanMake self.old pass (host_call.Unblock urb.0) }
+        ensures { (s : Scene) (f : Progress) (i : ℕ) (c : Call) → MayMake s f i c self.old pass (host_call.Unblock urb.0) → Made s f i c result self.new }
     {
         withdraw(&mut self.plain, pass, urb);
         CallAnswer::Done
@@ -42,8 +42,8 @@ impl LineRun<'_> {
 
     /// Withdraws the reject of a poison.
     pub fn unpoison(&mut self, pass: u32, urb: UrbId) -> CallAnswer
-        requires { CanMake self.old pass (deed.Unpoison urb.0) }
-        ensures { (s : Scene) (f : Progress) (i : ℕ) (c : Call) → MayMake s f i c self.old pass (deed.Unpoison urb.0) → Made s f i c result self.new }
+        requires { CanMake self.old pass (host_call.Unpoison urb.0) }
+        ensures { (s : Scene) (f : Progress) (i : ℕ) (c : Call) → MayMake s f i c self.old pass (host_call.Unpoison urb.0) → Made s f i c result self.new }
     {
         withdraw(&mut self.plain, pass, urb);
         CallAnswer::Done
@@ -51,8 +51,8 @@ impl LineRun<'_> {
 
     /// Kills the URB.
     pub fn kill(&mut self, alloc: Global, pass: u32, urb: UrbId) -> Result<CallAnswer, Memory>
-        requires { CanMake self.old pass (deed.Kill urb.0) }
-        ensures { IfOk result (λ told. (s : Scene) (f : Progress) (i : ℕ) (c : Call) → MayMake s f i c self.old pass (deed.Kill urb.0) → Made s f i c told self.new) }
+        requires { CanMake self.old pass (host_call.Kill urb.0) }
+        ensures { IfOk result (λ told. (s : Scene) (f : Progress) (i : ℕ) (c : Call) → MayMake s f i c self.old pass (host_call.Kill urb.0) → Made s f i c told self.new) }
     {
         let rest = self.kill_urb(alloc, pass, urb)?;
         Ok(CallAnswer::Buffer(rest))
@@ -60,8 +60,8 @@ impl LineRun<'_> {
 
     /// Poisons the URB.
     pub fn poison(&mut self, alloc: Global, pass: u32, urb: UrbId) -> Result<CallAnswer, Memory>
-        requires { CanMake self.old pass (deed.Poison urb.0) }
-        ensures { IfOk result (λ told. (s : Scene) (f : Progress) (i : ℕ) (c : Call) → MayMake s f i c self.old pass (deed.Poison urb.0) → Made s f i c told self.new) }
+        requires { CanMake self.old pass (host_call.Poison urb.0) }
+        ensures { IfOk result (λ told. (s : Scene) (f : Progress) (i : ℕ) (c : Call) → MayMake s f i c self.old pass (host_call.Poison urb.0) → Made s f i c told self.new) }
     {
         let rest = self.poison_urb(alloc, pass, urb)?;
         Ok(CallAnswer::Buffer(rest))
@@ -69,7 +69,7 @@ impl LineRun<'_> {
 
     /// Answers a call on an URB that no driver has.
     pub fn refuse(&self) -> CallAnswer
-        ensures { (s : Scene) (f : Progress) (i : ℕ) (c : Call) (p : ℕ) → MayMake s f i c self.now p deed.Absent → Made s f i c result self.now }
+        ensures { (s : Scene) (f : Progress) (i : ℕ) (c : Call) (p : ℕ) → MayMake s f i c self.now p host_call.Absent → Made s f i c result self.now }
     {
         CallAnswer::Code(Code::Fault(Errno::ENODEV))
     }
@@ -77,7 +77,7 @@ impl LineRun<'_> {
     /// Turns until one gives nothing back.
     pub fn serve_all(&mut self, alloc: Global) -> Result<CallAnswer, Memory>
         requires { IsShown self.old }
-        ensures { IfOk result (λ told. (s : Scene) (f : Progress) (i : ℕ) (c : Call) (p : ℕ) → MayMake s f i c self.old p deed.Serve → Made s f i c told self.new) }
+        ensures { IfOk result (λ told. (s : Scene) (f : Progress) (i : ℕ) (c : Call) (p : ℕ) → MayMake s f i c self.old p host_call.Serve → Made s f i c told self.new) }
     {
         self.serve(alloc)?;
         Ok(CallAnswer::Nothing)

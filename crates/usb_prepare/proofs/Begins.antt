@@ -13,13 +13,13 @@ use Rattle.usb_device.specs.Device.{Call, Stands}
 use Rattle.usb_device.specs.Device as devices
 use Rattle.usb_scene.specs.WellFormed.{is_raw, AreGiven}
 use Rattle.usb_scene.specs.declared.scene.SceneDevice.{SceneDevice}
-use Rattle.usb_prepare.specs.declared.beginning.One.{One}
-use Rattle.usb_prepare.specs.declared.beginning.Begun.{Begun}
+use Rattle.usb_prepare.specs.declared.beginning.EnumeratedDevice.{EnumeratedDevice}
+use Rattle.usb_prepare.specs.declared.beginning.EnumeratedDevices.{EnumeratedDevices}
 use Rattle.usb_prepare.specs.Enumerated.{enumerated, attached_in, attached_of, fault_in, IsFound}
 use Rattle.usb_prepare.specs.Ends.{address_of, attached_as}
-use Rattle.usb_prepare.specs.Asking.{IsOwn}
+use Rattle.usb_prepare.specs.Requests.{IsOwn}
 use Rattle.usb_prepare.specs.Prepared.{requests_heard, enumeration_of, attached_from}
-use Rattle.usb_prepare.specs.Bindings.{one_of, fault_as, faults_from, IsBegun, HaveHeard, enumerations_from, AreBegun, AddsOne}
+use Rattle.usb_prepare.specs.Bindings.{one_of, fault_as, faults_from, IsEnumerated, HaveHeard, enumerations_from, AreEnumerated, AddsDevice}
 use Rattle.usb_prepare.proofs.Lists.{in_longer}
 
 raw_same : (k : Kind) → devices.is_raw k ≡ is_raw k
@@ -32,7 +32,7 @@ pub own : (device : SceneDevice) → is_raw device.script.kind ≡ false → Are
 own device other given = record { other = raw_same device.script.kind ∙ other; config = given }
 
 module _ (d : ℕ) (device : SceneDevice) (made : Scripted) where
-  pub begun_raw : is_raw device.script.kind ≡ true → Stands made device.script [] → IsBegun d device record { device = made; attached = None; fault = None }
+  pub begun_raw : is_raw device.script.kind ≡ true → Stands made device.script [] → IsEnumerated d device record { device = made; attached = None; fault = None }
   unfolding attached_as
   begun_raw raw stands = record {
     heard = subst (Stands made device.script) (sym (ap (λ b. cond b [] (requests_heard device.script (address_of d) 6)) raw)) stands;
@@ -41,7 +41,7 @@ module _ (d : ℕ) (device : SceneDevice) (made : Scripted) where
   }
 
   pub begun_other : (told : Result Attached EnumFault) → is_raw device.script.kind ≡ false → IsFound (address_of d) (enumerated device.script (address_of d)) told
-      → Stands made device.script (requests_heard device.script (address_of d) 6) → IsBegun d device (one_of made told)
+      → Stands made device.script (requests_heard device.script (address_of d) 6) → IsEnumerated d device (one_of made told)
   unfolding attached_as
   begun_other (Ok a) other is stands = record {
     heard = subst (Stands made device.script) (sym (ap (λ b. cond b [] (requests_heard device.script (address_of d) 6)) other)) stands;
@@ -91,14 +91,14 @@ heard_more ds hs all x calls one old new = record {
     go d device cs made (inr a) (inl b) c = let near = slice_get_within hs d cs b in let same = old.same in let at = a.0 in absurd (omega arith)
     go d device cs made (inr a) (inr b) (inl c) = let near = slice_get_within all d made c in let same = old.count in let at = a.0 in absurd (omega arith)
 
-pub begun_none : (b : Begun) → b.devices.items ≡ [] → b.attached ≡ [] → b.faults ≡ [] → AreBegun [] b
+pub begun_none : (b : EnumeratedDevices) → b.devices.items ≡ [] → b.attached ≡ [] → b.faults ≡ [] → AreEnumerated [] b
 begun_none b d a f = record {
   heard = record { count = ap (λ (l : List Scripted). length l) d; same = refl; each = λ k device calls one p q r. cc };
   attached = a;
   faults = f;
 }
 
-pub begun_longer : (ds : List SceneDevice) (i : ℕ) (x : SceneDevice) (old new : Begun) (one : One) → i < length ds → AreBegun (take i ds) old → IsBegun i (get_or ds i x) one → AddsOne old one new → AreBegun (take (i + 1) ds) new
+pub begun_longer : (ds : List SceneDevice) (i : ℕ) (x : SceneDevice) (old new : EnumeratedDevices) (one : EnumeratedDevice) → i < length ds → AreEnumerated (take i ds) old → IsEnumerated i (get_or ds i x) one → AddsDevice old one new → AreEnumerated (take (i + 1) ds) new
 begun_longer ds i x old new one near are is adds =
     let y = get_or ds i x in
     let long : length (take i ds) ≡ i = length-take-le i ds (omega arith) in

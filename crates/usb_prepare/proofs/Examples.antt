@@ -9,7 +9,7 @@ use Rattle.usb_bind.specs.declared.row.Driver.TheVariants as driver
 use Rattle.usb_device.specs.Rules.{first_state}
 use Rattle.usb_scene.specs.declared.scene.Scene.{Scene}
 use Rattle.usb_scene.specs.declared.scene.SceneDevice.{SceneDevice}
-use Rattle.usb_prepare.specs.declared.found.Face.{Face}
+use Rattle.usb_prepare.specs.declared.found.InterfaceFound.{InterfaceFound}
 use Rattle.usb_prepare.specs.declared.found.Found.TheVariants as found
 use Rattle.usb_prepare.specs.declared.found.Taken.{Taken}
 use Rattle.usb_prepare.specs.declared.found.Taken.TheVariants as taken
@@ -36,7 +36,7 @@ device kind items = record {
 abbrev scene : List SceneDevice → Scene
 scene devices = record { version = 1; devices = devices; urbs = []; anchors = []; threads = [] }
 
-abbrev boot_face : Taken → Face
+abbrev boot_face : Taken → InterfaceFound
 boot_face t = record { number = 0; class = 3; subclass = 1; protocol = 1; taken = t }
 
 a_keyboard_is_bound : found_of (scene (device Keyboard [] ∷ [])) ≡ found.Attached 0x1209 0x0001 (boot_face (taken.By driver.Keyboard) ∷ []) ∷ []

@@ -9,7 +9,7 @@ use Rattle.usb_bind.specs.Interfaces.{has_number, with_interface, interfaces_of,
 use Rattle.usb_bind.specs.Board.{BoardValue}
 use Rattle.usb_bind.proofs.ByNumber.{by_number}
 use Rattle.usb_prepare.specs.declared.found.Probe.{Probe}
-use Rattle.usb_prepare.specs.declared.found.Face.{Face}
+use Rattle.usb_prepare.specs.declared.found.InterfaceFound.{InterfaceFound}
 use Rattle.usb_prepare.specs.Prepared.{face_of, faces_of}
 use Rattle.usb_prepare.proofs.Lists.{in_longer, none_passes, fold_keeps}
 
@@ -73,7 +73,7 @@ face_snoc board d [] (q ∷ probes) a p e = absurd (omega arith)
 face_snoc board d (x ∷ alts) [] a p e = absurd (omega arith)
 face_snoc board d (x ∷ alts) (q ∷ probes) a p e = ap (λ l. face_of board d x q ∷ l) (face_snoc board d alts probes a p (omega arith))
 
-pub faces_longer : (board : BoardValue) (d i : ℕ) (alts : List Alt) (probes : List Probe) (a : Alt) (p : Probe) (face : Face) (old new : List Face) → length probes ≡ length alts → slice_get alts i ≡ Some a → i < length alts
+pub faces_longer : (board : BoardValue) (d i : ℕ) (alts : List Alt) (probes : List Probe) (a : Alt) (p : Probe) (face : InterfaceFound) (old new : List InterfaceFound) → length probes ≡ length alts → slice_get alts i ≡ Some a → i < length alts
     → p ≡ get_or probes i p → face ≡ face_of board d a p → old ≡ faces_of board d (take i alts) (take i probes) → new ≡ old ++ face ∷ [] → new ≡ faces_of board d (take (i + 1) alts) (take (i + 1) probes)
 faces_longer board d i alts probes a p face old new same at near is made o n =
     let more : take (i + 1) alts ≡ take i alts ++ a ∷ [] = take_more alts i a near ∙ ap (λ x. take i alts ++ x ∷ []) (get_or_from_slice_get alts i a a at) in

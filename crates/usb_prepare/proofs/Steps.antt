@@ -30,7 +30,7 @@ use Rattle.usb_scene.specs.WellFormed.{AreGiven}
 use Rattle.usb_prepare.specs.Enumerated.{desc_of, config_said, said_at, one_more, after}
 use Rattle.usb_prepare.specs.Probing.{asking}
 use Rattle.usb_prepare.specs.Prepared.{request_in, request_at, requests_heard}
-use Rattle.usb_prepare.specs.Asking.{answer_to, left_of, is_failed, IsAt}
+use Rattle.usb_prepare.specs.Requests.{answer_to, left_of, is_failed, IsAt}
 use Rattle.usb_prepare.proofs.Sound.{ok_in, then_in, known_in, measured_in, Says, reached, all_by}
 
 -- the request of a stage

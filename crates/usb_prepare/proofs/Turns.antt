@@ -20,7 +20,7 @@ use Rattle.usb_device.specs.Device.{Call, reply_to}
 use Rattle.usb_prepare.specs.Enumerated.{said_at, after, enumerated, attached_in, IsFound}
 use Rattle.usb_prepare.specs.Prepared.{requests_heard}
 use Rattle.usb_prepare.specs.Probing.{asking}
-use Rattle.usb_prepare.specs.Asking.{answer_to, left_of, is_failed, is_memory, IsOwn, IsAt, GoesOn}
+use Rattle.usb_prepare.specs.Requests.{answer_to, left_of, is_failed, is_memory, IsOwn, IsAt, GoesOn}
 use Rattle.usb_prepare.proofs.Sound.{ok_in, then_in, known_in, measured_in}
 use Rattle.usb_prepare.proofs.Steps.{told, goes_on, ends, requests_more, fits_room, fault_ends, fresh_at}
 

@@ -17,8 +17,8 @@ use Rattle.usb_scene.specs.WellFormed.{is_raw}
 use Rattle.usb_scene.specs.declared.scene.Scene.{Scene}
 use Rattle.usb_scene.specs.declared.scene.SceneDevice.{SceneDevice}
 use Rattle.usb_prepare.specs.declared.preparing.Opened.{Opened}
-use Rattle.usb_prepare.specs.declared.beginning.One.{One}
-use Rattle.usb_prepare.specs.declared.beginning.Begun.{Begun}
+use Rattle.usb_prepare.specs.declared.beginning.EnumeratedDevice.{EnumeratedDevice}
+use Rattle.usb_prepare.specs.declared.beginning.EnumeratedDevices.{EnumeratedDevices}
 use Rattle.usb_prepare.specs.Enumerated.{enumerated, fault_in}
 use Rattle.usb_prepare.specs.Ends.{address_of, attached_as, shapes_of}
 use Rattle.usb_prepare.specs.Prepared.{enumeration_of, attached_from, board_of, pool_of, Probes, probed_from, found_attached}
@@ -57,12 +57,12 @@ faults_from d [] = []
 faults_from d (device ∷ devices) = fault_as d device ∷ faults_from (d + 1) devices
 
 -- a device that was enumerated so
-abbrev pub one_of : Scripted → Result Attached EnumFault → One
+abbrev pub one_of : Scripted → Result Attached EnumFault → EnumeratedDevice
 one_of device (Ok a) = record { device = device; attached = Some a; fault = None }
 one_of device (Err fault) = record { device = device; attached = None; fault = Some fault }
 
 -- a device is made and enumerated
-pub record IsBegun (d : ℕ) (device : SceneDevice) (one : One) : Type 0 where
+pub record IsEnumerated (d : ℕ) (device : SceneDevice) (one : EnumeratedDevice) : Type 0 where
   pub heard : Stands one.device device.script (enumeration_of d device)
   pub attached : one.attached ≡ attached_as d device
   pub fault : one.fault ≡ fault_as d device
@@ -78,7 +78,7 @@ enumerations_from d [] = []
 enumerations_from d (device ∷ devices) = enumeration_of d device ∷ enumerations_from (d + 1) devices
 
 -- these devices are made and enumerated
-pub record AreBegun (devices : List SceneDevice) (begun : Begun) : Type 0 where
+pub record AreEnumerated (devices : List SceneDevice) (begun : EnumeratedDevices) : Type 0 where
   pub heard : HaveHeard devices (enumerations_from 0 devices) begun.devices.items
   pub attached : begun.attached ≡ attached_from 0 devices
   pub faults : begun.faults ≡ faults_from 0 devices
@@ -101,7 +101,7 @@ pub record AreProbed (s : Scene) (k : ℕ) (bindings : Bindings) (all : List Scr
   pub later : (d : ℕ) (device : SceneDevice) (one : Scripted) → k ≤ d → slice_get s.devices d ≡ Some device → slice_get all d ≡ Some one → Stands one device.script (enumeration_of d device)
 
 -- a device more is at the end
-pub record AddsOne (old : Begun) (one : One) (new : Begun) : Type 0 where
+pub record AddsDevice (old : EnumeratedDevices) (one : EnumeratedDevice) (new : EnumeratedDevices) : Type 0 where
   pub devices : new.devices.items ≡ old.devices.items ++ one.device ∷ []
   pub attached : new.attached ≡ old.attached ++ one.attached ∷ []
   pub faults : new.faults ≡ old.faults ++ one.fault ∷ []

@@ -3,7 +3,7 @@ pub mod Enumerated
 pub mod Probing
 pub mod Ends
 pub mod Prepared
-pub mod Asking
+pub mod Requests
 pub mod Layout
 pub mod Bindings
 pub mod Ready

@@ -22,7 +22,7 @@ use Rattle.usb_prepare.specs.declared.found.Probe.{Probe}
 use Rattle.usb_prepare.specs.declared.found.Probe.TheVariants as probe
 use Rattle.usb_prepare.specs.declared.found.Taken.{Taken}
 use Rattle.usb_prepare.specs.declared.found.Taken.TheVariants as taken
-use Rattle.usb_prepare.specs.declared.found.Face.{Face}
+use Rattle.usb_prepare.specs.declared.found.InterfaceFound.{InterfaceFound}
 use Rattle.usb_prepare.specs.declared.found.Found.{Found}
 use Rattle.usb_prepare.specs.declared.found.Found.TheVariants as found
 use Rattle.usb_prepare.specs.Enumerated.{after, enumerated, attached_in}
@@ -104,7 +104,7 @@ taken_by None (probe.Refused (lacks.Full need spare)) = taken.Full
 taken_by None probe.Cancelled = taken.Failed
 taken_by None _ = taken.Nobody
 
-abbrev pub face_of : BoardValue → ℕ → Alt → Probe → Face
+abbrev pub face_of : BoardValue → ℕ → Alt → Probe → InterfaceFound
 face_of board d alt went = record {
   number = alt.number;
   class = alt.class;
@@ -113,7 +113,7 @@ face_of board d alt went = record {
   taken = taken_by (holder_of board d alt.number) went;
 }
 
-abbrev pub faces_of : BoardValue → ℕ → List Alt → List Probe → List Face
+abbrev pub faces_of : BoardValue → ℕ → List Alt → List Probe → List InterfaceFound
 faces_of board d (alt ∷ alts) (went ∷ probes) = face_of board d alt went ∷ faces_of board d alts probes
 faces_of board d _ _ = []
 

@@ -2,7 +2,7 @@
 ghost use Rattle.std.specs.Prelude.{◌≡◌, ◌≤◌, ◌<◌, true, length, IfOk, OnOk};
 ghost use Rattle.usb_device.specs.Short.{lines_are_short};
 ghost use Rattle.usb_scene.specs.WellFormed.{is_raw, AreGiven, IsWellFormed};
-ghost use Rattle.usb_prepare.specs.Bindings.{one_of, IsBegun, AddsOne, AreBegun};
+ghost use Rattle.usb_prepare.specs.Bindings.{one_of, IsEnumerated, AddsDevice, AreEnumerated};
 
 use crate::enumeration::enumerate;
 use std::alloc::Global;
@@ -14,7 +14,7 @@ use usb_xfer::Kind;
 
 /// A device of the scene.
 #[derive(Drop)]
-pub struct One<'a> {
+pub struct EnumeratedDevice<'a> {
     pub device: Scripted<'a>,
     pub attached: Option<Attached>,
     pub fault: Option<EnumFault>,
@@ -22,7 +22,7 @@ pub struct One<'a> {
 
 /// All devices, indexed by scene number.
 #[derive(Drop)]
-pub struct Begun<'a> {
+pub struct EnumeratedDevices<'a> {
     pub devices: Vec<Scripted<'a>>,
     pub attached: List<Option<Attached>>,
     pub faults: List<Option<EnumFault>>,
@@ -35,16 +35,16 @@ fn is_raw(kind: Kind) -> bool
 }
 
 // A device that was enumerated so.
-fn enumerated(device: Scripted<'_>, told: Result<Attached, EnumFault>) -> One<'_>
+fn enumerated(device: Scripted<'_>, told: Result<Attached, EnumFault>) -> EnumeratedDevice<'_>
     ensures { result ≡ one_of device.entry told }
 {
     match told {
-        Ok(attached) => One {
+        Ok(attached) => EnumeratedDevice {
             device,
             attached: Some(attached),
             fault: None,
         },
-        Err(fault) => One {
+        Err(fault) => EnumeratedDevice {
             device,
             attached: None,
             fault: Some(fault),
@@ -58,17 +58,17 @@ fn begin<'a>(
     device: &'a SceneDevice,
     number: u8,
     room: &mut [u8],
-) -> Result<One<'a>, Memory>
+) -> Result<EnumeratedDevice<'a>, Memory>
     requires short { lines_are_short device.now.script.answers ≡ true }
     requires given { AreGiven 65535 device.now.script.config }
     requires few { number < 127 }
     requires room { 65535 ≤ length room.old }
     ensures size { length room.new ≡ length room.old }
-    ensures begun { IfOk result (IsBegun number device.now) }
+    ensures begun { IfOk result (IsEnumerated number device.now) }
 {
     let mut made = Scripted::new(alloc, &device.script)?;
     if is_raw(device.script.kind) {
-        return Ok(One {
+        return Ok(EnumeratedDevice {
             device: made,
             attached: None,
             fault: None,
@@ -79,13 +79,13 @@ fn begin<'a>(
 }
 
 /// Makes all devices of a scene.
-pub fn begin_all<'a>(alloc: Global, scene: &'a Scene, room: &mut [u8]) -> Result<Begun<'a>, Memory>
+pub fn begin_all<'a>(alloc: Global, scene: &'a Scene, room: &mut [u8]) -> Result<EnumeratedDevices<'a>, Memory>
     requires good { IsWellFormed scene.now }
     requires room { 65535 ≤ length room.old }
     ensures size { length room.new ≡ length room.old }
-    ensures begun { IfOk result (AreBegun scene.now.devices) }
+    ensures begun { IfOk result (AreEnumerated scene.now.devices) }
 {
-    let mut begun = Begun {
+    let mut begun = EnumeratedDevices {
         devices: Vec::new(alloc),
         attached: List::of(Vec::new(alloc)),
         faults: List::of(Vec::new(alloc)),
@@ -97,12 +97,12 @@ pub fn begin_all<'a>(alloc: Global, scene: &'a Scene, room: &mut [u8]) -> Result
     Ok(begun)
 }
 
-impl<'a> Begun<'a> {
+impl<'a> EnumeratedDevices<'a> {
     // Adds a device at the end.
-    fn add(&mut self, one: One<'a>) -> Result<(), Memory>
-        ensures { OnOk result (AddsOne self.old one.entry self.new) }
+    fn add(&mut self, one: EnumeratedDevice<'a>) -> Result<(), Memory>
+        ensures { OnOk result (AddsDevice self.old one.entry self.new) }
     {
-        let One {
+        let EnumeratedDevice {
             device,
             attached,
             fault,

@@ -6,7 +6,7 @@ ghost use Rattle.usb_device.specs.Device.{Call, reply_to, Stands};
 ghost use Rattle.usb_prepare.specs.Enumerated.{enumerated, IsFound};
 ghost use Rattle.usb_prepare.specs.Probing.{asking};
 ghost use Rattle.usb_prepare.specs.Prepared.{requests_heard};
-ghost use Rattle.usb_prepare.specs.Asking.{code_heard, count_heard, answer_to, left_of, is_failed, is_memory, IsOwn, IsAt, GoesOn};
+ghost use Rattle.usb_prepare.specs.Requests.{code_heard, count_heard, answer_to, left_of, is_failed, is_memory, IsOwn, IsAt, GoesOn};
 
 use std::alloc::Global;
 use usb_ctrl::{Attached, EnumFault, Enumerator, Setup};

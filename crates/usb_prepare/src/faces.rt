@@ -6,7 +6,7 @@ ghost use Rattle.usb_bind.specs.Board.{attached_at};
 ghost use Rattle.usb_prepare.specs.Prepared.{taken_by, face_of, faces_of, found_attached};
 ghost use Rattle.usb_prepare.specs.Bindings.{found_by};
 
-use crate::found::{Face, Found, Probe, Taken};
+use crate::found::{InterfaceFound, Found, Probe, Taken};
 use std::alloc::Global;
 use usb_bind::{Board, Driver, ProbeFault, interface_at, interfaces};
 use usb_ctrl::{Attached, EnumFault};
@@ -35,10 +35,10 @@ fn taken(holder: Option<Driver>, probe: Probe) -> Taken
     }
 }
 
-fn face(board: &Board, device: u32, alt: &Alt, probe: Probe) -> Face
+fn face(board: &Board, device: u32, alt: &Alt, probe: Probe) -> InterfaceFound
     ensures { result ≡ face_of board.now device alt.now probe }
 {
-    Face {
+    InterfaceFound {
         number: alt.number,
         class: alt.class,
         subclass: alt.subclass,
@@ -54,7 +54,7 @@ fn faces(
     device: u32,
     config: &ConfigTree,
     probes: &[Probe],
-) -> Result<List<Face>, Memory>
+) -> Result<List<InterfaceFound>, Memory>
     requires { length probes.now ≡ length (interfaces_of config.now) }
     ensures { IfOk result (λ faces. faces ≡ faces_of board.now device (interfaces_of config.now) probes.now) }
 {

@@ -29,7 +29,7 @@ pub enum Taken {
 
 /// An interface, as its setting 0 describes it (USB 2.0 §9.6.5).
 #[derive(Clone, Copy)]
-pub struct Face {
+pub struct InterfaceFound {
     pub number: u8,
     pub class: u8,
     pub subclass: u8,
@@ -46,7 +46,7 @@ pub enum Found {
         vendor: u16,
         product: u16,
         /// Its interfaces, in the order in which they stand.
-        faces: List<Face>,
+        faces: List<InterfaceFound>,
     },
     /// Why its enumeration ended.
     Fault(EnumFault),

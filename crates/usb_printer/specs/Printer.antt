@@ -7,7 +7,7 @@ use Rattle.usb_printer.specs.declared.event.Event.{Event}
 use Rattle.usb_printer.specs.Jobs.{Completion, events_of, print_events}
 
 -- the number and the interface of its question, whether the question is out, and the events so far
-pub record Kept : Type 0 where
+pub record PrinterState : Type 0 where
   pub number : ℕ
   pub interface : ℕ
   pub out : Bool
@@ -25,9 +25,9 @@ is_question question Ctl t = t.number == question
 is_question question role t = false
 
 -- the core takes note of one completion more: a question that came back is not out
-abbrev pub noted : Kept → Completion → Kept
+abbrev pub noted : PrinterState → Completion → PrinterState
 noted core c = record core { out = if is_question core.number c.role c.transfer then false else core.out; events = core.events ++ events_of c }
 
 -- the core of a printer with this id has seen these completions, and no other
-abbrev pub Stands : Kept → List ℕ → List Completion → Type 0
-Stands core id done = core.events ≡ print_events id done
+abbrev pub IsAfter : PrinterState → List ℕ → List Completion → Type 0
+IsAfter core id done = core.events ≡ print_events id done

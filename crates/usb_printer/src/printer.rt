@@ -26,9 +26,9 @@ pub struct Printer {
 
 impl Model for Printer {
     ghost use Rattle.std.specs.Option.{is_none};
-    ghost use Rattle.usb_printer.specs.Printer.{Kept};
+    ghost use Rattle.usb_printer.specs.Printer.{PrinterState};
 
-    ghost Value = { Kept };
+    ghost Value = { PrinterState };
 
     ghost view = { λ p. record { number = p.number; interface = p.interface; out = is_none p.question; events = p.events.items } };
 }
@@ -37,13 +37,13 @@ impl Printer {
     ghost use Rattle.usb_machine.specs.Shapes.{HasWindow};
     ghost use Rattle.usb_printer.specs.Ids.{id_events};
     ghost use Rattle.usb_printer.specs.Jobs.{Completion, completion, action_of};
-    ghost use Rattle.usb_printer.specs.Printer.{Kept, IsOfPrinter, Stands, noted};
+    ghost use Rattle.usb_printer.specs.Printer.{PrinterState, IsOfPrinter, IsAfter, noted};
 
     /// The core of a printer to which nothing came back yet. The id is the reply to GET_DEVICE_ID, and empty where there
     /// was none; the number is the question's.
     pub fn new(alloc: Global, number: u64, interface: u8, id: &[u8]) -> Result<Printer, Memory>
         ensures core { IfOk result (λ core. core ≡ record { number = number; interface = interface; out = false; events = id_events id.now }) }
-        ensures stands { IfOk result (λ core. Stands core id.now []) }
+        ensures stands { IfOk result (λ core. IsAfter core id.now []) }
     {
         let question = question(alloc, number, interface)?;
         let mut printer = Printer {
@@ -99,7 +99,7 @@ impl Printer {
         requires window { HasWindow t.now }
         ensures action { IfOk result (λ action. action ≡ action_of role code t.now) }
         ensures core { OnOk result (self.new ≡ noted self.old (completion role code t.now)) }
-        ensures stands { (id : List ℕ) (done : List Completion) → Stands self.old id done → OnOk result (Stands self.new id (done ++ completion role code t.now ∷ [])) }
+        ensures stands { (id : List ℕ) (done : List Completion) → IsAfter self.old id done → OnOk result (IsAfter self.new id (done ++ completion role code t.now ∷ [])) }
         ensures memory { OnErr result (self.new ≡ self.old) }
     {
         self.note(role, code, t)?;

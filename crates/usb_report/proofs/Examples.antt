@@ -16,7 +16,7 @@ use Rattle.usb_scene.specs.declared.scene.Scene.{Scene}
 use Rattle.usb_scene.specs.declared.scene.SceneDevice.{SceneDevice}
 use Rattle.usb_scene.specs.declared.scene.Target.TheVariants as on
 use Rattle.usb_prepare.specs.declared.found.Taken.TheVariants as taken
-use Rattle.usb_prepare.specs.declared.found.Face.{Face}
+use Rattle.usb_prepare.specs.declared.found.InterfaceFound.{InterfaceFound}
 use Rattle.usb_prepare.specs.declared.found.Found.{Found}
 use Rattle.usb_prepare.specs.declared.found.Found.TheVariants as found
 use Rattle.usb_line.specs.declared.made.CallAnswer.TheVariants as told
@@ -66,7 +66,7 @@ module _ (any : SceneDevice) where
   unfolding digits
   no_bytes = refl
 
-  abbrev face : ℕ → ℕ → ℕ → ℕ → Face
+  abbrev face : ℕ → ℕ → ℕ → ℕ → InterfaceFound
   face number class subclass protocol =
       record { number = number; class = class; subclass = subclass; protocol = protocol; taken = taken.By driver.Acm }
 

@@ -16,7 +16,7 @@ use Rattle.usb_bind.specs.declared.bound.Bound.{Bound}
 use Rattle.usb_scene.specs.declared.scene.Scene.{Scene}
 use Rattle.usb_prepare.specs.declared.found.Taken.{Taken}
 use Rattle.usb_prepare.specs.declared.found.Taken.TheVariants as taken
-use Rattle.usb_prepare.specs.declared.found.Face.{Face}
+use Rattle.usb_prepare.specs.declared.found.InterfaceFound.{InterfaceFound}
 use Rattle.usb_prepare.specs.declared.found.Found.{Found}
 use Rattle.usb_prepare.specs.declared.found.Found.TheVariants as found
 use Rattle.usb_report.specs.Numbered.{numbered}
@@ -65,11 +65,11 @@ abbrev pub class_name : ℕ → List ℕ
 class_name class = unwrap_or (name_at class_table class) (codes "-")
 
 -- class, subclass and protocol: CC/SS/PP
-unfoldable pub class_text : Face → List ℕ
+unfoldable pub class_text : InterfaceFound → List ℕ
 class_text face = hex_pair face.class ++ codes "/" ++ hex_pair face.subclass ++ codes "/" ++ hex_pair face.protocol
 
 -- interface N CLASSNAME CC/SS/PP DRIVER
-abbrev pub face_text : Face → List ℕ
+abbrev pub face_text : InterfaceFound → List ℕ
 face_text face = line (codes "interface" ∷ decimal face.number ∷ class_name face.class ∷ class_text face ∷ taken_text face.taken ∷ [])
 
 -- device NAME VVVV:PPPP with the lines of its interfaces, or device NAME fault FAULT; a raw device has no line

@@ -11,7 +11,7 @@ use Rattle.usb_prepare.specs.declared.found.Found.{Found}
 use Rattle.usb_line.specs.declared.made.CallMade.{CallMade}
 use Rattle.usb_line.specs.declared.made.Outcome.{Outcome}
 use Rattle.usb_line.specs.declared.made.Outcome.TheVariants as outcome
-use Rattle.usb_line.specs.declared.made.Given.{Given}
+use Rattle.usb_line.specs.declared.made.GivebackRow.{GivebackRow}
 use Rattle.usb_line.specs.declared.run.EndReceived.{EndReceived}
 use Rattle.usb_report.specs.Names.{device_name, urb_name}
 use Rattle.usb_report.specs.Listing.{list_text}
@@ -24,12 +24,12 @@ outcome_text (outcome.Again code) = codes "again " ++ code_text code
 outcome_text (outcome.Asked code) = codes "ask " ++ code_text code
 
 -- URB STATUS ACTUAL OUTCOME BYTES
-abbrev pub given_text : Scene → List Bound → Given → List ℕ
+abbrev pub given_text : Scene → List Bound → GivebackRow → List ℕ
 given_text s bindings g =
     line (urb_name s bindings g.urb ∷ code_text g.status ∷ decimal g.actual ∷ outcome_text g.outcome ∷ hex_text g.bytes ∷ [])
 
 -- `given`, and a line for each Give. The section is left out where it has no lines
-abbrev pub given_section : Scene → List Bound → List Given → List ℕ
+abbrev pub given_section : Scene → List Bound → List GivebackRow → List ℕ
 given_section s bindings [] = []
 given_section s bindings (g ∷ gs) = line (codes "given" ∷ []) ++ flat_map (given_text s bindings) (g ∷ gs)
 
@@ -47,6 +47,6 @@ received_section s ends = if list_all has_none ends then [] else line (codes "re
 
 -- the report of a run: what the devices are found to be, the calls with their answers, what was given back, what the
 -- drivers report, and what the endpoints received
-abbrev pub text_of : Scene → List Found → List Bound → List CallMade → List Given → List Told → List EndReceived → List ℕ
+abbrev pub text_of : Scene → List Found → List Bound → List CallMade → List GivebackRow → List Told → List EndReceived → List ℕ
 text_of s found bindings made given told ends =
     list_text s found ++ threads_text s made ++ given_section s bindings given ++ drivers_section s bindings told ++ received_section s ends

@@ -9,7 +9,7 @@ use crate::names::push_device;
 use usb_bind::{Bound, Driver};
 use usb_ctrl::EnumFault;
 use usb_desc::DescFault;
-use usb_prepare::{Face, Found, Taken};
+use usb_prepare::{InterfaceFound, Found, Taken};
 use usb_scene::Scene;
 use usb_text::{push_number, push_pairs};
 use usb_types::{Buf, Code, Errno, Memory, classes, name_of, requests};
@@ -117,7 +117,7 @@ fn class_name(class: u8) -> &'static str
 }
 
 #[tactic(auto, unfolding(crate::specs::Listing::class_text))]
-fn push_class(report: &mut Buf, face: &Face) -> Result<(), Memory>
+fn push_class(report: &mut Buf, face: &InterfaceFound) -> Result<(), Memory>
     ensures { OnOk result (report.new ≡ report.old ++ class_text face.now) }
 {
     push_pairs(report, &[face.class])?;
@@ -128,7 +128,7 @@ fn push_class(report: &mut Buf, face: &Face) -> Result<(), Memory>
 }
 
 // An interface's number and its class's name, each with the space after it.
-fn push_face_name(report: &mut Buf, face: &Face) -> Result<(), Memory>
+fn push_face_name(report: &mut Buf, face: &InterfaceFound) -> Result<(), Memory>
     ensures { OnOk result (report.new ≡ report.old ++ decimal face.now.number ++ codes " " ++ class_name face.now.class ++ codes " ") }
 {
     push_number(report, face.number as u64)?;
@@ -138,7 +138,7 @@ fn push_face_name(report: &mut Buf, face: &Face) -> Result<(), Memory>
 }
 
 // The rest of the line: the class's numbers, and who has the interface.
-fn push_face_taken(report: &mut Buf, face: &Face) -> Result<(), Memory>
+fn push_face_taken(report: &mut Buf, face: &InterfaceFound) -> Result<(), Memory>
     ensures { OnOk result (report.new ≡ report.old ++ class_text face.now ++ codes " " ++ taken_text face.now.taken ++ codes "\n") }
 {
     push_class(report, face)?;
@@ -147,7 +147,7 @@ fn push_face_taken(report: &mut Buf, face: &Face) -> Result<(), Memory>
     report.append(b"\n")
 }
 
-fn push_face(report: &mut Buf, face: &Face) -> Result<(), Memory>
+fn push_face(report: &mut Buf, face: &InterfaceFound) -> Result<(), Memory>
     ensures { OnOk result (report.new ≡ report.old ++ face_text face.now) }
 {
     report.append(b"interface ")?;
@@ -155,7 +155,7 @@ fn push_face(report: &mut Buf, face: &Face) -> Result<(), Memory>
     push_face_taken(report, face)
 }
 
-fn push_faces(report: &mut Buf, faces: &[Face]) -> Result<(), Memory>
+fn push_faces(report: &mut Buf, faces: &[InterfaceFound]) -> Result<(), Memory>
     ensures { OnOk result (report.new ≡ report.old ++ flat_map face_text faces.now) }
 {
     for face in faces {

@@ -12,7 +12,7 @@ use crate::names::{push_device, push_urb};
 use crate::telling::push_drivers;
 use usb_bind::Bound;
 use usb_class::Told;
-use usb_line::{CallMade, EndReceived, Given, Outcome};
+use usb_line::{CallMade, EndReceived, GivebackRow, Outcome};
 use usb_prepare::Found;
 use usb_scene::Scene;
 use usb_text::{push_hex, push_number, push_pairs};
@@ -23,7 +23,7 @@ fn push_result(
     report: &mut Buf,
     scene: &Scene,
     bindings: &[Bound],
-    given: &Given,
+    given: &GivebackRow,
 ) -> Result<(), Memory>
     ensures { OnOk result (report.new ≡ report.old ++ urb_name scene.now bindings.now given.now.urb ++ codes " " ++ code_text given.now.status ++ codes " " ++ decimal given.now.actual ++ codes " ") }
 {
@@ -61,7 +61,7 @@ fn push_outcome(report: &mut Buf, outcome: Outcome) -> Result<(), Memory>
 }
 
 // What the handler did and the moved bytes, to the line's end.
-fn push_moved(report: &mut Buf, given: &Given) -> Result<(), Memory>
+fn push_moved(report: &mut Buf, given: &GivebackRow) -> Result<(), Memory>
     ensures { OnOk result (report.new ≡ report.old ++ outcome_text given.now.outcome ++ codes " " ++ hex_text given.now.bytes ++ codes "\n") }
 {
     push_outcome(report, given.outcome)?;
@@ -73,7 +73,7 @@ fn push_given(
     report: &mut Buf,
     scene: &Scene,
     bindings: &[Bound],
-    given: &Given,
+    given: &GivebackRow,
 ) -> Result<(), Memory>
     ensures { OnOk result (report.new ≡ report.old ++ given_text scene.now bindings.now given.now) }
 {
@@ -85,7 +85,7 @@ fn push_all_given(
     report: &mut Buf,
     scene: &Scene,
     bindings: &[Bound],
-    given: &[Given],
+    given: &[GivebackRow],
 ) -> Result<(), Memory>
     ensures { OnOk result (report.new ≡ report.old ++ given_section scene.now bindings.now given.now) }
 {
@@ -155,7 +155,7 @@ pub fn push_report(
     found: &[Found],
     bindings: &[Bound],
     made: &[CallMade],
-    given: &[Given],
+    given: &[GivebackRow],
     told: &[Told],
     ends: &[EndReceived],
 ) -> Result<(), Memory>

@@ -6,7 +6,7 @@ use crate::listing::push_bound;
 use usb_bind::Bound;
 use usb_class::Told;
 use usb_scene::Scene;
-use usb_telling::push_told;
+use usb_telling::push_driver_events;
 use usb_types::{Buf, Memory};
 
 /// Adds the drivers, in the order in which they were bound, each with what it reports.
@@ -25,7 +25,7 @@ pub(crate) fn push_drivers(
             return Ok(());
         };
         push_bound(report, scene, bound)?;
-        push_told(report, told)?;
+        push_driver_events(report, told)?;
         left = bounds;
         untold = others;
     }

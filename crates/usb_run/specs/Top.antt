@@ -8,9 +8,9 @@ use Rattle.usb_scene.specs.Read.{scene_of}
 use Rattle.usb_prepare.specs.Below.{below}
 use Rattle.usb_prepare.specs.Ends.{ends_of}
 use Rattle.usb_prepare.specs.Prepared.{bindings_of, found_of}
-use Rattle.usb_line.specs.Run.{Doing, Giveback, IsRun, drivers_told}
+use Rattle.usb_line.specs.Run.{CallRecord, Giveback, IsRun, drivers_told}
 use Rattle.usb_line.specs.Line.{Progress, IsLineRun}
-use Rattle.usb_line.specs.Given.{given_of}
+use Rattle.usb_line.specs.GivebackRow.{giveback_row}
 use Rattle.usb_line.specs.Outcome.{made_of, end_of}
 use Rattle.usb_summary.specs.Summed.{IsSummed}
 use Rattle.usb_report.specs.Listing.{list_text}
@@ -28,16 +28,16 @@ list_of s = list_text s (found_of s)
 
 -- the report of a run: what its devices are found to be, its calls with their answers, its givebacks, what its drivers report,
 -- and what its endpoints received
-abbrev pub report_of : Scene → List Doing → List Giveback → List ℕ
-report_of s doings rounds =
-    text_of s (found_of s) (bindings_of s) (map made_of doings) (map (given_of s) rounds) (drivers_told s rounds) (map (end_of s rounds) (below (ends_of s)))
+abbrev pub report_of : Scene → List CallRecord → List Giveback → List ℕ
+report_of s call_records rounds =
+    text_of s (found_of s) (bindings_of s) (map made_of call_records) (map (giveback_row s) rounds) (drivers_told s rounds) (map (end_of s rounds) (below (ends_of s)))
 
 -- the text is the report of the scene's run in line order. That run is a run of the scene
 pub record IsReport (s : Scene) (text : List ℕ) : Type 0 where
   pub far : Progress
   pub line : IsLineRun s far
-  pub run : IsRun s far.history far.doings far.rounds
-  pub report : text ≡ report_of s far.doings far.rounds
+  pub run : IsRun s far.history far.call_records far.rounds
+  pub report : text ≡ report_of s far.call_records far.rounds
 
 -- the report of the scene's run in line order was added
 pub record AddsReport (s : Scene) (old new : List ℕ) : Type 0 where

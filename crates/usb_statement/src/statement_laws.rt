@@ -15,7 +15,7 @@ pub fn keyword_reads_back()
 {}
 
 /// What a line says is a statement that lines can say.
-pub fn a_line_says_what_can_be_said()
+pub fn a_read_line_can_be_printed()
     ensures { (keyword : Keyword) (texts : List (List ℕ)) (statement : Statement) → statement_of keyword texts ≡ Some statement → IsSayable statement }
 {}
 

@@ -21,14 +21,14 @@ use Rattle.usb_machine.specs.Calls.{entry, plain_entry, submit_entries, marks_of
 use Rattle.usb_generate.specs.Summary.{is_accepted, is_refused, is_given}
 use Rattle.usb_scene.specs.declared.scene.Scene.{Scene}
 use Rattle.usb_scene.specs.declared.scene.Call.{Call}
-use Rattle.usb_line.specs.declared.made.Deed.{Deed}
-use Rattle.usb_line.specs.declared.made.Deed.TheVariants as deed
+use Rattle.usb_line.specs.declared.made.HostCall.{HostCall}
+use Rattle.usb_line.specs.declared.made.HostCall.TheVariants as host_call
 use Rattle.usb_line.specs.declared.made.CallAnswer.{CallAnswer}
 use Rattle.usb_line.specs.declared.made.CallAnswer.TheVariants as told
 use Rattle.usb_line.specs.declared.made.Outcome.{Outcome}
 use Rattle.usb_line.specs.declared.made.Outcome.TheVariants as outcome
 use Rattle.usb_line.specs.Prepared.{main_pass}
-use Rattle.usb_line.specs.Run.{urbs_of, deed_entries, rest_entry, handled_by, given_entries, kills_of, seen_quiet, closing}
+use Rattle.usb_line.specs.Run.{urbs_of, host_call_entries, rest_entry, handled_by, given_entries, kills_of, seen_quiet, closing}
 use Rattle.usb_summary.specs.Counts.{again_code, is_fault, is_some_of}
 use Rattle.usb_summary.proofs.Counting.{bit, count-cons, count-append}
 
@@ -114,36 +114,36 @@ pub still_closing : (s : Scene) (marks : List Code) (rests : List (Option ℕ)) 
 still_closing s marks rests =
     still_both (kills_of (main_pass s) (urbs_of s) marks rests) (flat_map (seen_quiet (main_pass s)) (urbs_of s)) (still_kills (main_pass s) (urbs_of s) marks rests) (still_seen (main_pass s) (urbs_of s))
 
-abbrev pub is_submit : Deed → Bool
-is_submit (deed.Submit u) = true
+abbrev pub is_submit : HostCall → Bool
+is_submit (host_call.Submit u) = true
 is_submit _ = false
 
 -- neither does a call that is no submit
-pub still_deed : (s : Scene) (p : ℕ) (c : Call) (d : Deed) (a : CallAnswer) (marks : List Code) (rests : List (Option ℕ)) (down : Bool)
-    → is_submit d ≡ false → are_still (deed_entries s p c d a marks rests down) ≡ true
-still_deed s p c (deed.Submit u) a marks rests down off = cc
-still_deed s p c (deed.Unlink u) (told.Code a) marks rests down off = refl
-still_deed s p c (deed.Unlink u) _ marks rests down off = refl
-still_deed s p c (deed.Kill u) (told.Buffer n) [] rests down off = refl
-still_deed s p c (deed.Kill u) (told.Buffer n) (a ∷ marks) rests down off = refl
-still_deed s p c (deed.Kill u) _ marks rests down off = refl
-still_deed s p c (deed.Poison u) (told.Buffer n) [] rests down off = refl
-still_deed s p c (deed.Poison u) (told.Buffer n) (a ∷ marks) rests down off = refl
-still_deed s p c (deed.Poison u) _ marks rests down off = refl
-still_deed s p c (deed.Unpoison u) told.Done marks rests down off = refl
-still_deed s p c (deed.Unpoison u) _ marks rests down off = refl
-still_deed s p c (deed.Block u) told.Done marks rests down off = refl
-still_deed s p c (deed.Block u) _ marks rests down off = refl
-still_deed s p c (deed.Unblock u) told.Done marks rests down off = refl
-still_deed s p c (deed.Unblock u) _ marks rests down off = refl
-still_deed s p c deed.Serve _ marks rests down off = refl
-still_deed s p c deed.Down told.Done marks rests down off = still_flush p (urbs_of s) marks rests
-still_deed s p c deed.Down _ marks rests down off = refl
-still_deed s p c deed.Up told.Done marks rests true off = still_unflags p (urbs_of s)
-still_deed s p c deed.Up told.Done marks rests false off = refl
-still_deed s p c deed.Up _ marks rests down off = refl
-still_deed s p c deed.Absent _ marks rests down off = refl
-still_deed s p c deed.Other _ marks rests down off = refl
+pub still_host_call : (s : Scene) (p : ℕ) (c : Call) (d : HostCall) (a : CallAnswer) (marks : List Code) (rests : List (Option ℕ)) (down : Bool)
+    → is_submit d ≡ false → are_still (host_call_entries s p c d a marks rests down) ≡ true
+still_host_call s p c (host_call.Submit u) a marks rests down off = cc
+still_host_call s p c (host_call.Unlink u) (told.Code a) marks rests down off = refl
+still_host_call s p c (host_call.Unlink u) _ marks rests down off = refl
+still_host_call s p c (host_call.Kill u) (told.Buffer n) [] rests down off = refl
+still_host_call s p c (host_call.Kill u) (told.Buffer n) (a ∷ marks) rests down off = refl
+still_host_call s p c (host_call.Kill u) _ marks rests down off = refl
+still_host_call s p c (host_call.Poison u) (told.Buffer n) [] rests down off = refl
+still_host_call s p c (host_call.Poison u) (told.Buffer n) (a ∷ marks) rests down off = refl
+still_host_call s p c (host_call.Poison u) _ marks rests down off = refl
+still_host_call s p c (host_call.Unpoison u) told.Done marks rests down off = refl
+still_host_call s p c (host_call.Unpoison u) _ marks rests down off = refl
+still_host_call s p c (host_call.Block u) told.Done marks rests down off = refl
+still_host_call s p c (host_call.Block u) _ marks rests down off = refl
+still_host_call s p c (host_call.Unblock u) told.Done marks rests down off = refl
+still_host_call s p c (host_call.Unblock u) _ marks rests down off = refl
+still_host_call s p c host_call.Serve _ marks rests down off = refl
+still_host_call s p c host_call.Down told.Done marks rests down off = still_flush p (urbs_of s) marks rests
+still_host_call s p c host_call.Down _ marks rests down off = refl
+still_host_call s p c host_call.Up told.Done marks rests true off = still_unflags p (urbs_of s)
+still_host_call s p c host_call.Up told.Done marks rests false off = refl
+still_host_call s p c host_call.Up _ marks rests down off = refl
+still_host_call s p c host_call.Absent _ marks rests down off = refl
+still_host_call s p c host_call.Other _ marks rests down off = refl
 
 module _ (q : Event → Answer → Bool) (such : Code → Bool) (gives : Bool) (t : IsTally q such gives) where
   abbrev pub counted : List Entry → ℕ

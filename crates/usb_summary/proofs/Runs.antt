@@ -20,17 +20,17 @@ use Rattle.usb_scene.specs.WellFormed.{is_raw, HasDrivers, IsBuilt, IsCall}
 use Rattle.usb_line.specs.declared.made.CallAnswer.{CallAnswer}
 use Rattle.usb_line.specs.declared.made.CallAnswer.TheVariants as told
 use Rattle.usb_line.specs.declared.made.CallMade.{CallMade}
-use Rattle.usb_line.specs.declared.made.Given.{Given}
-use Rattle.usb_line.specs.declared.made.Deed.{Deed}
-use Rattle.usb_line.specs.declared.made.Deed.TheVariants as deed
-use Rattle.usb_line.specs.Prepared.{Asking, asking_of, deed_on, deed_alone, deed_by, submit_fault, fresh, pass_of}
-use Rattle.usb_line.specs.Run.{Doing, Giveback, IsAnswered, IsMade, deed_entries, call_entries, submit_of, moved_in, resent, handled_by, given_entries, handler_entries, giveback_entries}
-use Rattle.usb_line.specs.Given.{given_of}
+use Rattle.usb_line.specs.declared.made.GivebackRow.{GivebackRow}
+use Rattle.usb_line.specs.declared.made.HostCall.{HostCall}
+use Rattle.usb_line.specs.declared.made.HostCall.TheVariants as host_call
+use Rattle.usb_line.specs.Prepared.{Question, question_at, host_call_on, host_call_alone, host_call_by, submit_fault, fresh, pass_of}
+use Rattle.usb_line.specs.Run.{CallRecord, Giveback, IsAnswered, IsMade, host_call_entries, call_entries, submit_of, moved_in, resent, handled_by, given_entries, handler_entries, giveback_entries}
+use Rattle.usb_line.specs.GivebackRow.{giveback_row}
 use Rattle.usb_line.specs.Outcome.{made_of}
 use Rattle.usb_summary.specs.Counts.{code_in, submit_code, again_code, is_some_of}
 use Rattle.usb_summary.proofs.Counting.{bit, count-cons}
 use Rattle.usb_summary.proofs.Undriven.{are_raw, none_asked}
-use Rattle.usb_summary.proofs.Entries.{IsTally, counted, counted_both, still_counted, submit_counted, give_counted, handler_counted, is_submit, still_deed}
+use Rattle.usb_summary.proofs.Entries.{IsTally, counted, counted_both, still_counted, submit_counted, give_counted, handler_counted, is_submit, still_host_call}
 
 -- no driver has an URB of a scene of raw devices
 none_driven : (devices : List SceneDevice) (d : ℕ) → are_raw devices ≡ true → HasDrivers (slice_get devices d) → ⊥
@@ -44,42 +44,42 @@ module _ (s : Scene) (raw : are_raw s.devices ≡ true) (takes : (u : ℕ) (c : 
   sum_of xs = counted q such gives t xs
 
   -- a call that is no submit counts nothing
-  still_call : (p : ℕ) (d : Doing) (x : Deed) → is_submit x ≡ false → sum_of (deed_entries s p d.call x d.answer d.marks d.rests d.down) ≡ 0
+  still_call : (p : ℕ) (d : CallRecord) (x : HostCall) → is_submit x ≡ false → sum_of (host_call_entries s p d.call x d.answer d.marks d.rests d.down) ≡ 0
   still_call p d x off =
-      still_counted q such gives t (deed_entries s p d.call x d.answer d.marks d.rests d.down) (still_deed s p d.call x d.answer d.marks d.rests d.down off)
+      still_counted q such gives t (host_call_entries s p d.call x d.answer d.marks d.rests d.down) (still_host_call s p d.call x d.answer d.marks d.rests d.down off)
 
   -- and a submit its code
-  submit_call : (p u : ℕ) (d : Doing) (a : CallAnswer) → u < length s.urbs → IsAnswered s d (deed.Submit u) a
-      → sum_of (deed_entries s p d.call (deed.Submit u) a d.marks d.rests d.down) ≡ bit (is_some_of such (code_in a))
+  submit_call : (p u : ℕ) (d : CallRecord) (a : CallAnswer) → u < length s.urbs → IsAnswered s d (host_call.Submit u) a
+      → sum_of (host_call_entries s p d.call (host_call.Submit u) a d.marks d.rests d.down) ≡ bit (is_some_of such (code_in a))
   submit_call p u d (told.Code a) near is =
       ap (λ (o : Option Errno). sum_of (submit_of o p u (fresh s u d.call) a)) (takes u d.call near) ∙ submit_counted q such gives t p u (fresh s u d.call) a
   submit_call p u d told.Nothing near is = absurd is
   submit_call p u d told.Done near is = absurd is
   submit_call p u d (told.Buffer n) near is = absurd is
 
-  on_urb : (p code u : ℕ) (d : Doing) → 1 ≤ code → code ≤ 7 → u < length s.urbs → IsAnswered s d (deed_on code u) d.answer
-      → sum_of (deed_entries s p d.call (deed_on code u) d.answer d.marks d.rests d.down) ≡ bit (is_some_of such (if eqb code 1 then code_in d.answer else None))
+  on_urb : (p code u : ℕ) (d : CallRecord) → 1 ≤ code → code ≤ 7 → u < length s.urbs → IsAnswered s d (host_call_on code u) d.answer
+      → sum_of (host_call_entries s p d.call (host_call_on code u) d.answer d.marks d.rests d.down) ≡ bit (is_some_of such (if eqb code 1 then code_in d.answer else None))
   on_urb p zero u d low high near is = absurd (omega arith)
   on_urb p (suc zero) u d low high near is = submit_call p u d d.answer near is
-  on_urb p (suc (suc zero)) u d low high near is = still_call p d (deed.Unlink u) refl
-  on_urb p (suc (suc (suc zero))) u d low high near is = still_call p d (deed.Kill u) refl
-  on_urb p (suc (suc (suc (suc zero)))) u d low high near is = still_call p d (deed.Poison u) refl
-  on_urb p (suc (suc (suc (suc (suc zero))))) u d low high near is = still_call p d (deed.Unpoison u) refl
-  on_urb p (suc (suc (suc (suc (suc (suc zero)))))) u d low high near is = still_call p d (deed.Block u) refl
-  on_urb p (suc (suc (suc (suc (suc (suc (suc zero))))))) u d low high near is = still_call p d (deed.Unblock u) refl
+  on_urb p (suc (suc zero)) u d low high near is = still_call p d (host_call.Unlink u) refl
+  on_urb p (suc (suc (suc zero))) u d low high near is = still_call p d (host_call.Kill u) refl
+  on_urb p (suc (suc (suc (suc zero)))) u d low high near is = still_call p d (host_call.Poison u) refl
+  on_urb p (suc (suc (suc (suc (suc zero))))) u d low high near is = still_call p d (host_call.Unpoison u) refl
+  on_urb p (suc (suc (suc (suc (suc (suc zero)))))) u d low high near is = still_call p d (host_call.Block u) refl
+  on_urb p (suc (suc (suc (suc (suc (suc (suc zero))))))) u d low high near is = still_call p d (host_call.Unblock u) refl
   on_urb p (suc (suc (suc (suc (suc (suc (suc (suc n)))))))) u d low high near is = absurd (omega arith)
 
   -- a call on nothing is no submit
-  abbrev Alone : ℕ → Doing → ℕ → Type 0
-  Alone p d code = sum_of (deed_entries s p d.call (deed_alone code) d.answer d.marks d.rests d.down) ≡ bit (is_some_of such (if eqb code 1 then code_in d.answer else None))
+  abbrev Alone : ℕ → CallRecord → ℕ → Type 0
+  Alone p d code = sum_of (host_call_entries s p d.call (host_call_alone code) d.answer d.marks d.rests d.down) ≡ bit (is_some_of such (if eqb code 1 then code_in d.answer else None))
 
-  alone : (p code : ℕ) (d : Doing) → (code ≡ 8) ⊎ (code ≡ 21) ⊎ (code ≡ 22) → Alone p d code
-  alone p code d (inl e) = subst (Alone p d) (sym e) (still_call p d deed.Serve refl)
-  alone p code d (inr (inl e)) = subst (Alone p d) (sym e) (still_call p d deed.Down refl)
-  alone p code d (inr (inr e)) = subst (Alone p d) (sym e) (still_call p d deed.Up refl)
+  alone : (p code : ℕ) (d : CallRecord) → (code ≡ 8) ⊎ (code ≡ 21) ⊎ (code ≡ 22) → Alone p d code
+  alone p code d (inl e) = subst (Alone p d) (sym e) (still_call p d host_call.Serve refl)
+  alone p code d (inr (inl e)) = subst (Alone p d) (sym e) (still_call p d host_call.Down refl)
+  alone p code d (inr (inr e)) = subst (Alone p d) (sym e) (still_call p d host_call.Up refl)
 
-  by_target : (p code : ℕ) (on : Target) (d : Doing) → IsBuilt s code on → IsAnswered s d (deed_by s code on) d.answer
-      → sum_of (deed_entries s p d.call (deed_by s code on) d.answer d.marks d.rests d.down) ≡ bit (is_some_of such (if eqb code 1 then code_in d.answer else None))
+  by_target : (p code : ℕ) (on : Target) (d : CallRecord) → IsBuilt s code on → IsAnswered s d (host_call_by s code on) d.answer
+      → sum_of (host_call_entries s p d.call (host_call_by s code on) d.answer d.marks d.rests d.down) ≡ bit (is_some_of such (if eqb code 1 then code_in d.answer else None))
   by_target p code target.Nothing d built is = alone p code d built
   by_target p code (target.Urb u) d built is = on_urb p code u d built.0 built.1 built.2 is
   by_target p code (target.Role device interface role) d built is = absurd (none_driven s.devices device raw built.3)
@@ -88,7 +88,7 @@ module _ (s : Scene) (raw : are_raw s.devices ≡ true) (takes : (u : ℕ) (c : 
   by_target p code (target.Device device) d built is = absurd built
 
   -- the calls count as what is kept of them
-  pub calls_counted : (ds : List Doing) → All (IsMade s) ds → All (IsCall s) (map (λ (d : Doing). d.call) ds)
+  pub calls_counted : (ds : List CallRecord) → All (IsMade s) ds → All (IsCall s) (map (λ (d : CallRecord). d.call) ds)
       → sum_of (flat_map (call_entries s) ds) ≡ count_by (λ (m : CallMade). is_some_of such (submit_code m)) (map made_of ds)
   calls_counted [] made calls = refl
   calls_counted (d ∷ ds) made calls =
@@ -102,11 +102,11 @@ module _ (s : Scene) (raw : are_raw s.devices ≡ true) (takes : (u : ℕ) (c : 
   round_counted : (r : Giveback) → sum_of (giveback_entries s r) ≡ bit gives + bit (is_some_of such (again_code r.outcome))
   round_counted r =
       let last : List Entry = plain_entry SERVER (End record { 0 = r.urb }) ∷ [] in
-      let handled : Option Asking → List Entry = λ asking. handled_by s r.urb (moved_in s r) (resent s r) asking r.outcome in
+      let handled : Option Question → List Entry = λ asking. handled_by s r.urb (moved_in s r) (resent s r) asking r.outcome in
       let all = counted_both q such gives t (given_entries r.urb r.status r.finished) (handler_entries s r) in
       let give = give_counted q such gives t r.urb r.status r.finished in
-      let both = counted_both q such gives t (handled (asking_of s r.urb)) last in
-      let same : sum_of (handled (asking_of s r.urb)) ≡ sum_of (handled None) = ap (λ asking. sum_of (handled asking)) (none_asked s raw r.urb) in
+      let both = counted_both q such gives t (handled (question_at s r.urb)) last in
+      let same : sum_of (handled (question_at s r.urb)) ≡ sum_of (handled None) = ap (λ asking. sum_of (handled asking)) (none_asked s raw r.urb) in
       let again = handler_counted q such gives t s r.urb (moved_in s r) (resent s r) r.outcome in
       let none = still_counted q such gives t last refl in
       omega arith
@@ -114,11 +114,11 @@ module _ (s : Scene) (raw : are_raw s.devices ≡ true) (takes : (u : ℕ) (c : 
   -- and the givebacks
   pub rounds_counted : (rounds : List Giveback)
       → sum_of (flat_map (giveback_entries s) rounds)
-      ≡ length (map (given_of s) rounds) * bit gives + count_by (λ (g : Given). is_some_of such (again_code g.outcome)) (map (given_of s) rounds)
+      ≡ length (map (giveback_row s) rounds) * bit gives + count_by (λ (g : GivebackRow). is_some_of such (again_code g.outcome)) (map (giveback_row s) rounds)
   rounds_counted [] = omega arith
   rounds_counted (r ∷ rounds) =
       let here = round_counted r in
       let rest = rounds_counted rounds in
       let both = counted_both q such gives t (giveback_entries s r) (flat_map (giveback_entries s) rounds) in
-      let more = count-cons (λ (g : Given). is_some_of such (again_code g.outcome)) (given_of s r) (map (given_of s) rounds) in
+      let more = count-cons (λ (g : GivebackRow). is_some_of such (again_code g.outcome)) (giveback_row s r) (map (giveback_row s) rounds) in
       omega arith

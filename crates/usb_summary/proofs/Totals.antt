@@ -21,11 +21,11 @@ use Rattle.usb_prepare.specs.Ends.{device_ends, attached_as, shapes_of}
 use Rattle.usb_prepare.specs.Layout.{home}
 use Rattle.usb_prepare.proofs.Facts.{scripted_home}
 use Rattle.usb_line.specs.declared.made.CallMade.{CallMade}
-use Rattle.usb_line.specs.declared.made.Given.{Given}
+use Rattle.usb_line.specs.declared.made.GivebackRow.{GivebackRow}
 use Rattle.usb_line.specs.Prepared.{submit_fault, fresh, pass_of}
-use Rattle.usb_line.specs.Run.{Doing, Giveback, call_entries, moved_in, is_aside, done_by, closing, IsFramed, IsRun}
+use Rattle.usb_line.specs.Run.{CallRecord, Giveback, call_entries, moved_in, is_aside, done_by, closing, IsFramed, IsRun}
 use Rattle.usb_line.specs.Line.{Progress, IsLineRun}
-use Rattle.usb_line.specs.Given.{given_of}
+use Rattle.usb_line.specs.GivebackRow.{giveback_row}
 use Rattle.usb_line.specs.Outcome.{made_of}
 use Rattle.usb_line.proofs.Lines.{line_is_run}
 use Rattle.usb_generate.specs.Generator.{devices, urbs, generated}
@@ -64,7 +64,7 @@ aside_untold (Finish u code) a out = refl
 aside_untold _ a out = cc
 
 -- all calls are those of thread 0
-all_done : (ds : List Doing) → ((k : ℕ) (x : Doing) → k < length ds → (get_or ds k x).thread < 1) → done_by 0 ds ≡ ds
+all_done : (ds : List CallRecord) → ((k : ℕ) (x : CallRecord) → k < length ds → (get_or ds k x).thread < 1) → done_by 0 ds ≡ ds
 all_done [] only = refl
 all_done (d ∷ ds) only =
     let low = only 0 d (omega arith) in
@@ -79,15 +79,15 @@ module _ (number : ℕ) (good : IsWellFormed (generated number)) where
       let other = is_false (eqb (get_or (urbs 16) u d).address 0) (AllPass-from_list_all is_other (urbs 16) all_other u d near) in
       no_fault (generated number) (home (generated number) u) (fresh (generated number) u c) (all_served number) (ap (λ n. eqb n 0) home_is.1 ∙ other)
 
-  module _ (h : List Entry) (doings : List Doing) (rounds : List Giveback) (run : IsRun (generated number) h doings rounds) where
-    done : done_by 0 doings ≡ doings
-    done = all_done doings (λ k x l. (run.told k x l).thread)
+  module _ (h : List Entry) (call_records : List CallRecord) (rounds : List Giveback) (run : IsRun (generated number) h call_records rounds) where
+    done : done_by 0 call_records ≡ call_records
+    done = all_done call_records (λ k x l. (run.told k x l).thread)
 
     abbrev thread : SceneThread
     thread = get_or (generated number).threads 0 (record { name = []; calls = [] })
 
-    called : All (IsCall (generated number)) (map (λ (d : Doing). d.call) doings)
-    called = subst (All (IsCall (generated number))) (sym (ap (map (λ (d : Doing). d.call)) (sym done) ∙ run.calls 0 thread refl)) (good.threads 0 thread (omega arith)).calls
+    called : All (IsCall (generated number)) (map (λ (d : CallRecord). d.call) call_records)
+    called = subst (All (IsCall (generated number))) (sym (ap (map (λ (d : CallRecord). d.call)) (sym done) ∙ run.calls 0 thread refl)) (good.threads 0 thread (omega arith)).calls
 
     elsewhere : (n : ℕ) → n ≢ 0 → n ≢ 2 → n ≢ 3 → part_of h n ≡ []
     elsewhere n a b c = run.others n a c (λ i l e. b (e ∙ ap (pass_of (generated number)) (first i l)))
@@ -102,15 +102,15 @@ module _ (number : ℕ) (good : IsWellFormed (generated number)) where
       abbrev sum_of : List Entry → ℕ
       sum_of xs = counted q such gives t xs
 
-      server : sum_of (part_of h 0) ≡ length (map (given_of (generated number)) rounds) * bit gives
-          + count_by (λ (g : Given). is_some_of such (again_code g.outcome)) (map (given_of (generated number)) rounds)
+      server : sum_of (part_of h 0) ≡ length (map (giveback_row (generated number)) rounds) * bit gives
+          + count_by (λ (g : GivebackRow). is_some_of such (again_code g.outcome)) (map (giveback_row (generated number)) rounds)
       server =
           sym (count-filter (λ (x : Entry). q x.event x.answer) (λ (x : Entry). not (is_aside x.event x.answer)) (λ x out. t.quiet x.event x.answer (aside_untold x.event x.answer out)) (part_of h 0))
           ∙ (ap sum_of run.server ∙ rounds_counted (generated number) (all_raw number) takes q such gives t rounds)
 
-      calls : sum_of (part_of h 2) ≡ count_by (λ (m : CallMade). is_some_of such (submit_code m)) (map made_of doings)
+      calls : sum_of (part_of h 2) ≡ count_by (λ (m : CallMade). is_some_of such (submit_code m)) (map made_of call_records)
       calls = ap sum_of (run.threads 0 (omega arith) ∙ ap (flat_map (call_entries (generated number))) done)
-          ∙ calls_counted (generated number) (all_raw number) takes q such gives t doings run.told called
+          ∙ calls_counted (generated number) (all_raw number) takes q such gives t call_records run.told called
 
       main : sum_of (part_of h 3) ≡ 0
       main =
@@ -122,9 +122,9 @@ module _ (number : ℕ) (good : IsWellFormed (generated number)) where
           ∙ (ap (λ l. l ++ part_of framed.last 3) framed.between ∙ framed.closes)) in
           ap sum_of last ∙ still_counted q such gives t (closing (generated number) framed.marks framed.rests) (still_closing (generated number) framed.marks framed.rests)
 
-      all_counted : sum_of h ≡ (length (map (given_of (generated number)) rounds) * bit gives
-          + count_by (λ (g : Given). is_some_of such (again_code g.outcome)) (map (given_of (generated number)) rounds))
-          + (count_by (λ (m : CallMade). is_some_of such (submit_code m)) (map made_of doings) + 0)
+      all_counted : sum_of h ≡ (length (map (giveback_row (generated number)) rounds) * bit gives
+          + count_by (λ (g : GivebackRow). is_some_of such (again_code g.outcome)) (map (giveback_row (generated number)) rounds))
+          + (count_by (λ (m : CallMade). is_some_of such (submit_code m)) (map made_of call_records) + 0)
       all_counted =
           let split = count_by_passes (λ (x : Entry). q x.event x.answer) 0 2 3 (λ e. absurd (omega arith)) (λ e. absurd (omega arith)) (λ e. absurd (omega arith)) h elsewhere in
           let a = server in let b = calls in let c = main in
@@ -134,25 +134,25 @@ none_such : (o : Option Code) → is_some_of (λ code. false) o ≡ false
 none_such None = refl
 none_such (Some code) = refl
 
-actual_of : (s : Scene) (rounds : List Giveback) → map (λ (g : Given). g.actual) (map (given_of s) rounds) ≡ map (λ (r : Giveback). (moved_in s r).actual) rounds
+actual_of : (s : Scene) (rounds : List Giveback) → map (λ (g : GivebackRow). g.actual) (map (giveback_row s) rounds) ≡ map (λ (r : Giveback). (moved_in s r).actual) rounds
 actual_of s [] = refl
 actual_of s (r ∷ rounds) = ap (λ l. (moved_in s r).actual ∷ l) (actual_of s rounds)
 
 -- what is counted of the outcome is what is counted of the history
 pub line_is_summary : (number : ℕ) → IsWellFormed (generated number) → (f : Progress) → IsLineRun (generated number) f
-    → counts_line number (counts_of (map made_of f.doings) (map (given_of (generated number)) f.rounds))
+    → counts_line number (counts_of (map made_of f.call_records) (map (giveback_row (generated number)) f.rounds))
     ≡ summary_of number f.history (map (λ (r : Giveback). (moved_in (generated number) r).actual) f.rounds)
 line_is_summary number good f line =
-    let made : List CallMade = map made_of f.doings in
-    let given : List Given = map (given_of (generated number)) f.rounds in
+    let made : List CallMade = map made_of f.call_records in
+    let given : List GivebackRow = map (giveback_row (generated number)) f.rounds in
     let run = line_is_run (generated number) good f line in
     let accepted : submits_in is_zero made given ≡ count_by (λ (x : Entry). is_accepted x.event x.answer) f.history =
-    (let all = all_counted number good f.history f.doings f.rounds run is_accepted is_zero false accepted_tally in omega arith) in
+    (let all = all_counted number good f.history f.call_records f.rounds run is_accepted is_zero false accepted_tally in omega arith) in
     let refused : submits_in is_fault made given ≡ count_by (λ (x : Entry). is_refused x.event x.answer) f.history =
-    (let all = all_counted number good f.history f.doings f.rounds run is_refused is_fault false refused_tally in omega arith) in
+    (let all = all_counted number good f.history f.call_records f.rounds run is_refused is_fault false refused_tally in omega arith) in
     let back : length given ≡ count_by (λ (x : Entry). is_given x.event) f.history =
-    (let all = all_counted number good f.history f.doings f.rounds run (λ e a. is_given e) (λ code. false) true given_tally in
+    (let all = all_counted number good f.history f.call_records f.rounds run (λ e a. is_given e) (λ code. false) true given_tally in
     let calls = count_none (λ (m : CallMade). is_some_of (λ code. false) (submit_code m)) (λ m. none_such (submit_code m)) made in
-    let again = count_none (λ (g : Given). is_some_of (λ code. false) (again_code g.outcome)) (λ g. none_such (again_code g.outcome)) given in
+    let again = count_none (λ (g : GivebackRow). is_some_of (λ code. false) (again_code g.outcome)) (λ g. none_such (again_code g.outcome)) given in
     omega arith) in
     λ j. counts_line number (record { accepted = accepted j; refused = refused j; given = back j; bytes = bytes_in (actual_of (generated number) f.rounds j) })

@@ -13,7 +13,7 @@ use Rattle.usb_prepare.specs.Ends.{address_of, attached_as}
 use Rattle.usb_prepare.specs.Enumerated.{attached_of}
 use Rattle.usb_prepare.specs.Prepared.{Probes, board_of, pool_of, enumeration_of, probing_from, probed_device, with_device, probed_from, probes_of, bindings_of}
 use Rattle.usb_line.specs.declared.owner.Owner.{Owner}
-use Rattle.usb_line.specs.Prepared.{owner_from, owner_of, asking_by, asking_of, read_by, read_of, number_of}
+use Rattle.usb_line.specs.Prepared.{owner_from, owner_of, owner_question, question_at, read_by, read_of, number_of}
 use Rattle.usb_line.specs.Run.{urbs_of, read_entries_by, read_entries, opening}
 
 abbrev pub are_raw : List SceneDevice → Bool
@@ -38,9 +38,9 @@ module _ (s : Scene) (raw : are_raw s.devices ≡ true) where
   unfolding owner_of
   none_owned u = ap (λ (l : List Bound). owner_from (probes_of s).board 0 l u) none_bound
 
-  pub none_asked : (u : ℕ) → asking_of s u ≡ None
-  unfolding asking_of
-  none_asked u = ap (asking_by s) (none_owned u)
+  pub none_asked : (u : ℕ) → question_at s u ≡ None
+  unfolding question_at
+  none_asked u = ap (owner_question s) (none_owned u)
 
   none_read : (u : ℕ) → read_of s u ≡ None
   none_read u = ap (λ (o : Option Owner). read_by o (number_of s u)) (none_owned u)

@@ -7,7 +7,7 @@ use Rattle.usb_generate.specs.Summary.{bytes_in}
 use Rattle.usb_line.specs.declared.made.CallMade.{CallMade}
 use Rattle.usb_line.specs.declared.made.CallAnswer.{CallAnswer}
 use Rattle.usb_line.specs.declared.made.CallAnswer.TheVariants as told
-use Rattle.usb_line.specs.declared.made.Given.{Given}
+use Rattle.usb_line.specs.declared.made.GivebackRow.{GivebackRow}
 use Rattle.usb_line.specs.declared.made.Outcome.{Outcome}
 use Rattle.usb_line.specs.declared.made.Outcome.TheVariants as outcome
 use Rattle.usb_summary.specs.declared.counts.Counts.{Counts}
@@ -34,16 +34,16 @@ is_some_of such None = false
 is_some_of such (Some code) = such code
 
 -- how many transfers were submitted and answered such a code, by the calls and by the handlers
-abbrev pub submits_in : (Code → Bool) → List CallMade → List Given → ℕ
+abbrev pub submits_in : (Code → Bool) → List CallMade → List GivebackRow → ℕ
 submits_in such made given =
-    count_by (λ (m : CallMade). is_some_of such (submit_code m)) made + count_by (λ (g : Given). is_some_of such (again_code g.outcome)) given
+    count_by (λ (m : CallMade). is_some_of such (submit_code m)) made + count_by (λ (g : GivebackRow). is_some_of such (again_code g.outcome)) given
 
-abbrev pub counts_of : List CallMade → List Given → Counts
+abbrev pub counts_of : List CallMade → List GivebackRow → Counts
 counts_of made given = record {
   accepted = submits_in is_zero made given;
   refused = submits_in is_fault made given;
   given = length given;
-  bytes = bytes_in (map (λ (g : Given). g.actual) given);
+  bytes = bytes_in (map (λ (g : GivebackRow). g.actual) given);
 }
 
 -- the line of a number with these counts

@@ -9,5 +9,5 @@ use Rattle.usb_line.specs.Line.{Progress, IsLineRun}
 pub record IsSummed (number : ℕ) (old new : List ℕ) : Type 0 where
   pub far : Progress
   pub line : IsLineRun (generated number) far
-  pub run : IsRun (generated number) far.history far.doings far.rounds
+  pub run : IsRun (generated number) far.history far.call_records far.rounds
   pub added : new ≡ old ++ summary_of number far.history (map (λ (r : Giveback). (moved_in (generated number) r).actual) far.rounds)

@@ -2,10 +2,10 @@
 ghost use Rattle.std.specs.Prelude.{◌≡◌, map};
 ghost use Rattle.usb_machine.specs.State.{is_zero};
 ghost use Rattle.usb_generate.specs.Summary.{bytes_in};
-ghost use Rattle.usb_line.specs.declared.made.Given.{Given as GivenRow};
+ghost use Rattle.usb_line.specs.declared.made.GivebackRow.{GivebackRow};
 ghost use Rattle.usb_summary.specs.Counts.{submit_code, again_code, is_fault, is_some_of, submits_in, counts_of};
 
-use usb_line::{CallAnswer, CallMade, Given, Outcome};
+use usb_line::{CallAnswer, CallMade, GivebackRow, Outcome};
 use usb_types::Code;
 
 // The number of `submit` in the table of calls.
@@ -61,7 +61,7 @@ fn is_refused(code: Option<Code>) -> bool
     }
 }
 
-fn accepted(made: &[CallMade], given: &[Given]) -> u64
+fn accepted(made: &[CallMade], given: &[GivebackRow]) -> u64
     ensures { result ≡ submits_in is_zero made.now given.now }
 {
     let called = made.iter().filter(|m| is_accepted(submit_code(m))).count();
@@ -72,7 +72,7 @@ fn accepted(made: &[CallMade], given: &[Given]) -> u64
     called as u64 + again as u64
 }
 
-fn refused(made: &[CallMade], given: &[Given]) -> u64
+fn refused(made: &[CallMade], given: &[GivebackRow]) -> u64
     ensures { result ≡ submits_in is_fault made.now given.now }
 {
     let called = made.iter().filter(|m| is_refused(submit_code(m))).count();
@@ -83,8 +83,8 @@ fn refused(made: &[CallMade], given: &[Given]) -> u64
     called as u64 + again as u64
 }
 
-fn bytes_moved(given: &[Given]) -> u64
-    ensures { result ≡ bytes_in (map (λ (g : GivenRow). g.actual) given.now) }
+fn bytes_moved(given: &[GivebackRow]) -> u64
+    ensures { result ≡ bytes_in (map (λ (g : GivebackRow). g.actual) given.now) }
 {
     let mut bytes: u64 = 0;
     for g in given {
@@ -94,7 +94,7 @@ fn bytes_moved(given: &[Given]) -> u64
 }
 
 /// The counts of these calls and givebacks.
-pub(crate) fn count(made: &[CallMade], given: &[Given]) -> Counts
+pub(crate) fn count(made: &[CallMade], given: &[GivebackRow]) -> Counts
     ensures { result ≡ counts_of made.now given.now }
 {
     Counts {

@@ -6,4 +6,4 @@ mod keys;
 mod serial;
 mod told;
 
-pub use told::push_told;
+pub use told::push_driver_events;

@@ -9,7 +9,7 @@ use usb_class::Told;
 use usb_types::{Buf, Memory};
 
 /// Adds the lines of what a driver reports. An `Err` may leave some of them.
-pub fn push_told(report: &mut Buf, told: &Told) -> Result<(), Memory>
+pub fn push_driver_events(report: &mut Buf, told: &Told) -> Result<(), Memory>
     ensures { OnOk result (report.new ≡ report.old ++ told_text told.now) }
 {
     match told {

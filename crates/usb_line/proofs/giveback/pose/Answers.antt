@@ -25,15 +25,15 @@ returns-in-Some-clause-asked c = λ s h u a stands pose is.
           (subst (Stands c.args.plain.now (machine_of s)) (sym (append-nil h)) stands),
     )
 
-pub ask-requires : goal.ask-requires
-ask-requires c = c.requires
+pub submit_and_link-requires : goal.submit_and_link-requires
+submit_and_link-requires c = c.requires
 
 pub returns-clause-asked : goal.returns-clause-asked
 returns-clause-asked c = λ s h u a stands pose is.
     let fault : None ≡ shape_fault (shape_at s (home s a.urb)) a.transfer = sym (none_of _ c.in_default.not-Some) ∙ is.fault in
     let at = is.urb in
     let number = ap (λ t. t.number) (sym is.transfer) in
-    let got = c.ask.ensures.asked s h a.transfer stands record {
+    let got = c.submit_and_link.ensures.asked s h a.transfer stands record {
       there = omega arith;
       has = subst (HasHome (machine_of s)) (sym at) pose.has;
       window = pose.window;
@@ -41,6 +41,6 @@ returns-clause-asked c = λ s h u a stands pose is.
       taken = subst (λ u. Accepts (slice_get (machine_of s).layout.shapes (home s u)) a.transfer) (sym at) (subst (λ o. Accepts o a.transfer) (sym pose.home) (sym fault));
     } number in (
       got.0 ∙ (ap (λ u. refusal (state_of h u)) at ∙ ap (λ o. submit_answer o (refusal (state_of h a.urb))) fault),
-      subst (λ (o : Option Errno). Stands c.ask.new.plain (machine_of s) (h ++ submit_of o SERVER a.urb a.transfer c.ask.result)) fault
-          (subst (λ u. Stands c.ask.new.plain (machine_of s) (h ++ submit_entries SERVER u a.transfer c.ask.result)) at got.1),
+      subst (λ (o : Option Errno). Stands c.submit_and_link.new.plain (machine_of s) (h ++ submit_of o SERVER a.urb a.transfer c.submit_and_link.result)) fault
+          (subst (λ u. Stands c.submit_and_link.new.plain (machine_of s) (h ++ submit_entries SERVER u a.transfer c.submit_and_link.result)) at got.1),
     )

@@ -5,7 +5,7 @@ use Rattle.usb_machine.specs.declared.event.Event.TheVariants.{Submit, Link, Res
 use Rattle.usb_machine.specs.Plain.{Stands}
 use Rattle.usb_line.specs.declared.made.Outcome.{Outcome}
 use Rattle.usb_line.specs.declared.made.Outcome.TheVariants as outcome
-use Rattle.usb_line.specs.Prepared.{machine_of, asking_of}
+use Rattle.usb_line.specs.Prepared.{machine_of, question_at}
 use Rattle.usb_line.specs.Run.{moved_in, resent, handled_by}
 use Rattle.usb_line.specs.Steps.{told_code}
 use Rattle.usb_line.specs.Back.{given_after}
@@ -23,7 +23,7 @@ returns-in-Fault-clause-resubmitted c = λ s h r says stands can at number is.
     let two = enters _ _ _ _ _ c.enter-in-Fault.ensures.entered s (given_after h r ++ submit s h r can (Fault c.in-Fault.field-0) ∷ []) (rest s h r can (resent s r)) refl
     (λ i. Rest record { 0 = sym at i } (same i)) mid (acted s h r can (outcome.Again (Fault c.in-Fault.field-0)) did).1.0 tt in (
       told,
-      subst (λ (o : Outcome). Stands c.enter-in-Fault.new.plain (machine_of s) (given_after h r ++ handled_by s r.urb (moved_in s r) (resent s r) (asking_of s r.urb) o)) (sym did)
+      subst (λ (o : Outcome). Stands c.enter-in-Fault.new.plain (machine_of s) (given_after h r ++ handled_by s r.urb (moved_in s r) (resent s r) (question_at s r.urb) o)) (sym did)
           (two_more c.enter-in-Fault.new.plain (machine_of s) (given_after h r) (submit s h r can (Fault c.in-Fault.field-0)) (rest s h r can (resent s r)) two.1),
     )
 
@@ -38,6 +38,6 @@ returns-clause-resubmitted c = λ s h r says stands can at number is.
     let two = enters _ _ _ _ _ c.enter-2.ensures.entered s (given_after h r ++ submit s h r can Zero ∷ []) (link s h r can) refl
     (λ i. Link record { 0 = sym at i }) mid (acted s h r can (outcome.Again Zero) did).1.0 tt in (
       told,
-      subst (λ (o : Outcome). Stands c.enter-2.new.plain (machine_of s) (given_after h r ++ handled_by s r.urb (moved_in s r) (resent s r) (asking_of s r.urb) o)) (sym did)
+      subst (λ (o : Outcome). Stands c.enter-2.new.plain (machine_of s) (given_after h r ++ handled_by s r.urb (moved_in s r) (resent s r) (question_at s r.urb) o)) (sym did)
           (two_more c.enter-2.new.plain (machine_of s) (given_after h r) (submit s h r can Zero) (link s h r can) two.1),
     )

@@ -1,5 +1,5 @@
 use Rattle.std.proofs.Common.{◌∙◌, sym, subst}
-use Rattle.usb_prepare.specs.Bindings.{IsBegun}
+use Rattle.usb_prepare.specs.Bindings.{IsEnumerated}
 use Rattle.usb_prepare.proofs.Begins.{own, begun_raw, begun_other}
 use Rattle.usb_prepare.proofs.beginning.begin.Goals as goal
 
@@ -11,5 +11,5 @@ returns-clause-begun c =
     let other = sym c.is_raw.ensures ∙ c.if-is_raw.false in
     let script = c.args.device.now.script in
     let is = own c.args.device.now other c.requires.given in
-    subst (IsBegun c.args.number c.args.device.now) (sym c.enumerated.ensures)
+    subst (IsEnumerated c.args.number c.args.device.now) (sym c.enumerated.ensures)
     (begun_other c.args.number c.args.device.now c.enumerate.new.device c.in_ok-told.told other (c.in_ok-told.ensures.found script c.in_ok-made.ensures is) (c.in_ok-told.ensures.heard script c.in_ok-made.ensures is))

@@ -2,7 +2,7 @@ use Rattle.std.proofs.Common.{◌∙◌, Some, sym, ap, length, get_or, arith, s
 use Rattle.std.specs.Prelude.{slice_get}
 use Rattle.std.proofs.lemmas.Option.{slice_get-get_or}
 use Rattle.usb_scene.specs.declared.scene.SceneDevice.{SceneDevice}
-use Rattle.usb_prepare.specs.Bindings.{IsBegun}
+use Rattle.usb_prepare.specs.Bindings.{IsEnumerated}
 use Rattle.usb_prepare.proofs.Short.{item_lines_fit}
 use Rattle.usb_prepare.proofs.Begins.{begun_longer}
 use Rattle.usb_prepare.proofs.beginning.begin_all.Goals as goal
@@ -19,5 +19,5 @@ pub loop-i-preserved : goal.loop-i-preserved
 loop-i-preserved c = record {
   room_so = c.begin.ensures.size ∙ c.loop-i.invariant.room_so;
   begun_so = begun_longer c.args.scene.now.devices c.loop-i.i c.device-item.result c.loop-i.begun c.add.new.self c.in_ok-one.one (let near = c.loop-i-test.true in let same = ap length c.items-device-items.ensures in omega arith) c.loop-i.invariant.begun_so
-      (subst (λ (d : SceneDevice). IsBegun c.loop-i.i d c.in_ok-one.one) (c.device-item.is ∙ ap (λ l. get_or l c.loop-i.i c.device-item.result) c.items-device-items.ensures) c.in_ok-one.ensures.begun) c.in_ok-add.ensures;
+      (subst (λ (d : SceneDevice). IsEnumerated c.loop-i.i d c.in_ok-one.one) (c.device-item.is ∙ ap (λ l. get_or l c.loop-i.i c.device-item.result) c.items-device-items.ensures) c.in_ok-one.ensures.begun) c.in_ok-add.ensures;
 }

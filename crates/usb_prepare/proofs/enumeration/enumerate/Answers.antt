@@ -6,7 +6,7 @@ use Rattle.std.specs.Option.{ok_or}
 use Rattle.usb_ctrl.specs.Requests.{asks}
 use Rattle.usb_ctrl.specs.Enumeration.{end_of}
 use Rattle.usb_prepare.specs.Probing.{asking}
-use Rattle.usb_prepare.specs.Asking.{is_memory, IsAt, GoesOn}
+use Rattle.usb_prepare.specs.Requests.{is_memory, IsAt, GoesOn}
 use Rattle.usb_prepare.proofs.Turns.{first_live, started, asked_left, fault_found, fault_heard, end_found, end_heard}
 use Rattle.usb_prepare.proofs.enumeration.enumerate.Goals as goal
 

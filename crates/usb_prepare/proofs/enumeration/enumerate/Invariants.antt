@@ -1,7 +1,7 @@
 use Rattle.std.proofs.Common.{ℕ, ◌≡◌, false, List, [], length}
 use Rattle.usb_xfer.specs.declared.script.DeviceScript.{DeviceScript}
 use Rattle.usb_device.specs.Device.{Call, Stands}
-use Rattle.usb_prepare.specs.Asking.{left_of, is_failed, IsOwn, IsAt}
+use Rattle.usb_prepare.specs.Requests.{left_of, is_failed, IsOwn, IsAt}
 use Rattle.usb_prepare.proofs.enumeration.enumerate.Given as goal
 
 abbrev pub invariant-loop-setup : goal.invariant-loop-setup

@@ -2,7 +2,7 @@ use Rattle.std.proofs.Common.{◌≡◌, ℕ, List, ◌++◌, map, Result, Ok, E
 use Rattle.usb_scene.specs.declared.scene.Scene.{Scene}
 use Rattle.usb_scene.specs.WellFormed.{IsWellFormed}
 use Rattle.usb_line.specs.Outcome.{IsOutcome, made_of}
-use Rattle.usb_line.specs.Given.{given_of}
+use Rattle.usb_line.specs.GivebackRow.{giveback_row}
 use Rattle.usb_line.proofs.Lines.{line_is_run}
 use Rattle.usb_generate.specs.Generator.{generated}
 use Rattle.usb_summary.specs.Counts.{counts_of, counts_line}
@@ -19,7 +19,7 @@ returns c =
     let good : IsWellFormed (generated n) = subst IsWellFormed c.in_ok-scene.ensures.exact c.in_ok-scene.ensures.well_formed in
     let is : IsOutcome (generated n) c.in_ok-outcome.outcome = subst (λ (s : Scene). IsOutcome s c.in_ok-outcome.outcome) c.in_ok-scene.ensures.exact c.in_ok-outcome.ensures in
     let made = c.items.ensures ∙ is.made in let given = c.items-2.ensures ∙ is.given in
-    let counts : c.count-counts.result ≡ counts_of (map made_of is.far.doings) (map (given_of (generated n)) is.far.rounds) = c.count-counts.ensures ∙ (λ j. counts_of (made j) (given j)) in
+    let counts : c.count-counts.result ≡ counts_of (map made_of is.far.call_records) (map (giveback_row (generated n)) is.far.rounds) = c.count-counts.ensures ∙ (λ j. counts_of (made j) (given j)) in
     on_ok c.push_counts.result
     (λ (e : c.push_counts.new.report ≡ c.args.report.now ++ counts_line n c.count-counts.result). record {
       far = is.far;

@@ -19,36 +19,36 @@ returns-in_default-clause-given c = λ s f good shows first. let out = c.take_ou
     absurd (queued_holds s f c.args.self.now shows c.args.urb out.row out.at (unlinked_near s f c.args.self.now shows c.args.urb first).1
     (sym out.is ∙ none_of c.take_out.result c.in_default.not-Some))
 
-pub bring_back-requires-clause-known : goal.bring_back-requires-clause-known
-bring_back-requires-clause-known c = let q = c.requires in let out = c.take_out.ensures in
+pub give_back-requires-clause-known : goal.give_back-requires-clause-known
+give_back-requires-clause-known c = let q = c.requires in let out = c.take_out.ensures in
     (can_bring q.scene q.far c.args.self.now c.take_out.new.self q.shows q.good c.args.urb out.row out.at out.rows (λ i. length (out.same_ends i).items) out.same.plain out.same.cores).known
 
-pub bring_back-requires-clause-there : goal.bring_back-requires-clause-there
-bring_back-requires-clause-there c = let q = c.requires in let out = c.take_out.ensures in
+pub give_back-requires-clause-there : goal.give_back-requires-clause-there
+give_back-requires-clause-there c = let q = c.requires in let out = c.take_out.ensures in
     (can_bring q.scene q.far c.args.self.now c.take_out.new.self q.shows q.good c.args.urb out.row out.at out.rows (λ i. length (out.same_ends i).items) out.same.plain out.same.cores).there
 
-pub bring_back-requires-clause-home : goal.bring_back-requires-clause-home
-bring_back-requires-clause-home c = let q = c.requires in let out = c.take_out.ensures in
+pub give_back-requires-clause-home : goal.give_back-requires-clause-home
+give_back-requires-clause-home c = let q = c.requires in let out = c.take_out.ensures in
     (can_bring q.scene q.far c.args.self.now c.take_out.new.self q.shows q.good c.args.urb out.row out.at out.rows (λ i. length (out.same_ends i).items) out.same.plain out.same.cores).home
 
-pub bring_back-requires-clause-core : goal.bring_back-requires-clause-core
-bring_back-requires-clause-core c = let q = c.requires in let out = c.take_out.ensures in
+pub give_back-requires-clause-core : goal.give_back-requires-clause-core
+give_back-requires-clause-core c = let q = c.requires in let out = c.take_out.ensures in
     (can_bring q.scene q.far c.args.self.now c.take_out.new.self q.shows q.good c.args.urb out.row out.at out.rows (λ i. length (out.same_ends i).items) out.same.plain out.same.cores).core
 
-pub bring_back-requires-clause-asks : goal.bring_back-requires-clause-asks
-bring_back-requires-clause-asks c = let q = c.requires in let out = c.take_out.ensures in
+pub give_back-requires-clause-asks : goal.give_back-requires-clause-asks
+give_back-requires-clause-asks c = let q = c.requires in let out = c.take_out.ensures in
     (can_bring q.scene q.far c.args.self.now c.take_out.new.self q.shows q.good c.args.urb out.row out.at out.rows (λ i. length (out.same_ends i).items) out.same.plain out.same.cores).asks
 
-pub bring_back-requires-clause-window : goal.bring_back-requires-clause-window
-bring_back-requires-clause-window c = let q = c.requires in let out = c.take_out.ensures in
+pub give_back-requires-clause-window : goal.give_back-requires-clause-window
+give_back-requires-clause-window c = let q = c.requires in let out = c.take_out.ensures in
     (held_transfer q.scene q.far c.args.self.now q.shows c.args.urb out.row c.in-Some.t out.at (sym c.in-Some.is ∙ out.is)).window
 
 pub returns-clause-falls : goal.returns-clause-falls
 returns-clause-falls c = let q = c.requires in
-    unlinked_falls q.scene q.good q.far c.args.self.now c.take_out.new.self c.bring_back.new.self q.shows c.args.urb c.in-Some.t
-    (subst (λ (o : Option Transfer). TakesOut c.args.self.now c.take_out.new.self c.args.urb o) c.in-Some.is c.take_out.ensures) c.in_ok-bring_back.ensures.back q.first
+    unlinked_falls q.scene q.good q.far c.args.self.now c.take_out.new.self c.give_back.new.self q.shows c.args.urb c.in-Some.t
+    (subst (λ (o : Option Transfer). TakesOut c.args.self.now c.take_out.new.self c.args.urb o) c.in-Some.is c.take_out.ensures) c.in_ok-give_back.ensures.back q.first
 
 pub returns-clause-given : goal.returns-clause-given
 returns-clause-given c = λ s f good shows first.
-    gave_unlinked s good f c.args.self.now c.take_out.new.self c.bring_back.new.self shows c.args.urb c.in-Some.t
-    (subst (λ (o : Option Transfer). TakesOut c.args.self.now c.take_out.new.self c.args.urb o) c.in-Some.is c.take_out.ensures) c.in_ok-bring_back.ensures.back first
+    gave_unlinked s good f c.args.self.now c.take_out.new.self c.give_back.new.self shows c.args.urb c.in-Some.t
+    (subst (λ (o : Option Transfer). TakesOut c.args.self.now c.take_out.new.self c.args.urb o) c.in-Some.is c.take_out.ensures) c.in_ok-give_back.ensures.back first

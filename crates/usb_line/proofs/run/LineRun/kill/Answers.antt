@@ -1,11 +1,11 @@
 use Rattle.std.proofs.Common.{refl}
-use Rattle.usb_line.specs.declared.made.Deed.TheVariants as deed
+use Rattle.usb_line.specs.declared.made.HostCall.TheVariants as host_call
 use Rattle.usb_line.proofs.Calling.{is_there, may_kill, made_kill}
 use Rattle.usb_line.proofs.run.LineRun.kill.Goals as goal
 
 pub kill_urb-requires : goal.kill_urb-requires
 kill_urb-requires c =
-    let s = c.requires.scene in let f = c.requires.far in let d = deed.Kill c.args.urb.0 in
+    let s = c.requires.scene in let f = c.requires.far in let d = host_call.Kill c.args.urb.0 in
     record {
       scene = s;
       far = f;
@@ -15,5 +15,5 @@ kill_urb-requires c =
 
 pub returns : goal.returns
 returns c s f i k may =
-    let run = c.args.self.now in let p = c.args.pass in let u = c.args.urb.0 in let d = deed.Kill u in
+    let run = c.args.self.now in let p = c.args.pass in let u = c.args.urb.0 in let d = host_call.Kill u in
     made_kill s f i k run p d may u c.in_ok-rest.rest c.kill_urb.new.self refl (c.in_ok-rest.ensures s f (may_kill s f i k run p d may u (is_there s f i k run p d may)))

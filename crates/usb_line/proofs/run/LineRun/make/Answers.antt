@@ -1,7 +1,7 @@
 use Rattle.std.proofs.Common.{◌≡◌, refl, sym, ap, ◌∙◌}
 use Rattle.std.specs.Prelude.{slice_get}
 use Rattle.std.proofs.lemmas.Result.{IfOk-weaker}
-use Rattle.usb_line.specs.declared.made.Deed.TheVariants as deed
+use Rattle.usb_line.specs.declared.made.HostCall.TheVariants as host_call
 use Rattle.usb_line.specs.Sent.{said_of}
 use Rattle.usb_line.proofs.Calling.{is_there, may_make, may_hub}
 use Rattle.usb_line.proofs.run.LineRun.make.Goals as goal
@@ -9,7 +9,7 @@ use Rattle.usb_line.proofs.run.LineRun.make.Goals as goal
 pub submit-requires : goal.submit-requires
 submit-requires c =
     let s = c.args.scene.now in let u = c.in-Submit.urb in
-    let may = may_make s c.requires.can.far c.args.thread c.args.call.now c.args.self.now c.pass_of_thread-pass.result (deed.Submit u) c.requires.can.may (c.in-Submit.ensures c.args.scene.now c.requires.bound) c.pass_of_thread-pass.ensures in
+    let may = may_make s c.requires.can.far c.args.thread c.args.call.now c.args.self.now c.pass_of_thread-pass.result (host_call.Submit u) c.requires.can.may (c.in-Submit.ensures c.args.scene.now c.requires.bound) c.pass_of_thread-pass.ensures in
     record {
       scene = s;
       far = c.requires.can.far;
@@ -24,7 +24,7 @@ take_down-requires c = record {
   far = c.requires.can.far;
   thread = c.args.thread;
   call = c.args.call.now;
-  may = may_hub c.args.scene.now c.requires.can.far c.args.thread c.args.call.now c.args.self.now deed.Down c.requires.can.may (c.in-Down.ensures c.args.scene.now c.requires.bound) refl;
+  may = may_hub c.args.scene.now c.requires.can.far c.args.thread c.args.call.now c.args.self.now host_call.Down c.requires.can.may (c.in-Down.ensures c.args.scene.now c.requires.bound) refl;
 }
 
 pub bring_up-requires : goal.bring_up-requires
@@ -33,32 +33,32 @@ bring_up-requires c = record {
   far = c.requires.can.far;
   thread = c.args.thread;
   call = c.args.call.now;
-  may = may_hub c.args.scene.now c.requires.can.far c.args.thread c.args.call.now c.args.self.now deed.Up c.requires.can.may (c.in-Up.ensures c.args.scene.now c.requires.bound) refl;
+  may = may_hub c.args.scene.now c.requires.can.far c.args.thread c.args.call.now c.args.self.now host_call.Up c.requires.can.may (c.in-Up.ensures c.args.scene.now c.requires.bound) refl;
 }
 
 pub returns-in-Submit : goal.returns-in-Submit
 returns-in-Submit c =
     let s = c.args.scene.now in let u = c.in-Submit.urb in
-    let may = may_make s c.requires.can.far c.args.thread c.args.call.now c.args.self.now c.pass_of_thread-pass.result (deed.Submit u) c.requires.can.may (c.in-Submit.ensures c.args.scene.now c.requires.bound) c.pass_of_thread-pass.ensures in
+    let may = may_make s c.requires.can.far c.args.thread c.args.call.now c.args.self.now c.pass_of_thread-pass.result (host_call.Submit u) c.requires.can.may (c.in-Submit.ensures c.args.scene.now c.requires.bound) c.pass_of_thread-pass.ensures in
     let at : said_of (slice_get s.urbs u) ≡ c.said_of-said.result = sym (c.said_of-said.ensures ∙ ap (λ l. said_of (slice_get l u)) c.items.ensures) in
     IfOk-weaker c.submit.result _ _ (λ told is f may. is s f c.args.thread
-    (may_make s f c.args.thread c.args.call.now c.args.self.now c.pass_of_thread-pass.result (deed.Submit u) may (c.in-Submit.ensures c.args.scene.now c.requires.bound) c.pass_of_thread-pass.ensures) at) c.submit.ensures
+    (may_make s f c.args.thread c.args.call.now c.args.self.now c.pass_of_thread-pass.result (host_call.Submit u) may (c.in-Submit.ensures c.args.scene.now c.requires.bound) c.pass_of_thread-pass.ensures) at) c.submit.ensures
 
 pub returns-in-Serve : goal.returns-in-Serve
 returns-in-Serve c = IfOk-weaker c.serve_all.result _ _ (λ told is f may. is c.args.scene.now f c.args.thread c.args.call.now c.pass_of_thread-pass.result
-    (may_make c.args.scene.now f c.args.thread c.args.call.now c.args.self.now c.pass_of_thread-pass.result deed.Serve may (c.in-Serve.ensures c.args.scene.now c.requires.bound) c.pass_of_thread-pass.ensures)) c.serve_all.ensures
+    (may_make c.args.scene.now f c.args.thread c.args.call.now c.args.self.now c.pass_of_thread-pass.result host_call.Serve may (c.in-Serve.ensures c.args.scene.now c.requires.bound) c.pass_of_thread-pass.ensures)) c.serve_all.ensures
 
 pub returns-in-Down : goal.returns-in-Down
 returns-in-Down c = IfOk-weaker c.take_down.result _ _ (λ told is f may. is c.args.scene.now f c.args.thread c.args.call.now
-    (may_hub c.args.scene.now f c.args.thread c.args.call.now c.args.self.now deed.Down may (c.in-Down.ensures c.args.scene.now c.requires.bound) refl)) c.take_down.ensures
+    (may_hub c.args.scene.now f c.args.thread c.args.call.now c.args.self.now host_call.Down may (c.in-Down.ensures c.args.scene.now c.requires.bound) refl)) c.take_down.ensures
 
 pub returns-in-Up : goal.returns-in-Up
-returns-in-Up c f may = c.bring_up.ensures c.args.scene.now f c.args.thread c.args.call.now (may_hub c.args.scene.now f c.args.thread c.args.call.now c.args.self.now deed.Up may (c.in-Up.ensures c.args.scene.now c.requires.bound) refl)
+returns-in-Up c f may = c.bring_up.ensures c.args.scene.now f c.args.thread c.args.call.now (may_hub c.args.scene.now f c.args.thread c.args.call.now c.args.self.now host_call.Up may (c.in-Up.ensures c.args.scene.now c.requires.bound) refl)
 
 pub returns-in-Absent : goal.returns-in-Absent
 returns-in-Absent c f may = c.refuse.ensures c.args.scene.now f c.args.thread c.args.call.now c.pass_of_thread-pass.result
-    (may_make c.args.scene.now f c.args.thread c.args.call.now c.args.self.now c.pass_of_thread-pass.result deed.Absent may (c.in-Absent.ensures c.args.scene.now c.requires.bound) c.pass_of_thread-pass.ensures)
+    (may_make c.args.scene.now f c.args.thread c.args.call.now c.args.self.now c.pass_of_thread-pass.result host_call.Absent may (c.in-Absent.ensures c.args.scene.now c.requires.bound) c.pass_of_thread-pass.ensures)
 
 pub returns-in-Other : goal.returns-in-Other
-returns-in-Other c f may = absurd (is_there c.args.scene.now f c.args.thread c.args.call.now c.args.self.now c.pass_of_thread-pass.result deed.Other
-    (may_make c.args.scene.now f c.args.thread c.args.call.now c.args.self.now c.pass_of_thread-pass.result deed.Other may (c.in-Other.ensures c.args.scene.now c.requires.bound) c.pass_of_thread-pass.ensures))
+returns-in-Other c f may = absurd (is_there c.args.scene.now f c.args.thread c.args.call.now c.args.self.now c.pass_of_thread-pass.result host_call.Other
+    (may_make c.args.scene.now f c.args.thread c.args.call.now c.args.self.now c.pass_of_thread-pass.result host_call.Other may (c.in-Other.ensures c.args.scene.now c.requires.bound) c.pass_of_thread-pass.ensures))

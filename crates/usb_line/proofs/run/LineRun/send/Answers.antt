@@ -5,10 +5,10 @@ use Rattle.usb_line.proofs.run.LineRun.send.Goals as goal
 
 pub returns-in-Fault : goal.returns-in-Fault
 returns-in-Fault c = λ s f may.
-    let got = c.ask-code.ensures.asked s f.history c.args.t may.shows.stands may.ask refl in
-    sent_refused s f c.args.self.now c.args.pass c.args.urb.0 c.args.t may c.ask-code.result got.0 c.ask-code.new.plain got.1 c.in-Fault.field-0 c.in-Fault.is
+    let got = c.submit_and_link-code.ensures.asked s f.history c.args.t may.shows.stands may.ask refl in
+    sent_refused s f c.args.self.now c.args.pass c.args.urb.0 c.args.t may c.submit_and_link-code.result got.0 c.submit_and_link-code.new.plain got.1 c.in-Fault.field-0 c.in-Fault.is
 
 pub returns : goal.returns
 returns c = λ s f may.
-    let got = c.ask-code.ensures.asked s f.history c.args.t may.shows.stands may.ask refl in
-    sent_accepted s f c.args.self.now c.args.pass c.args.urb.0 c.args.t may c.ask-code.result got.0 c.ask-code.new.plain got.1 c.keep.new.self (is_zero_code c.ask-code.result c.in_default.not-Fault) c.keep.ensures
+    let got = c.submit_and_link-code.ensures.asked s f.history c.args.t may.shows.stands may.ask refl in
+    sent_accepted s f c.args.self.now c.args.pass c.args.urb.0 c.args.t may c.submit_and_link-code.result got.0 c.submit_and_link-code.new.plain got.1 c.keep.new.self (is_zero_code c.submit_and_link-code.result c.in_default.not-Fault) c.keep.ensures

@@ -58,32 +58,32 @@ returns-in_default-move_on-clause-served c = λ s f good shows none. let run = c
     c.in-Some-take_out.t (subst (λ (o : Option Transfer). TakesOut run c.take_out.new.self c.in-Some.urb o) c.in-Some-take_out.is c.take_out.ensures)
     c.move_on.new.self c.move_on.new.t c.move_on.result c.move_on.ensures (sym (none_of c.move_on.result c.in_default-move_on.not-Some)) c.fall_asleep.new.self c.fall_asleep.ensures
 
-pub bring_back-requires-clause-known : goal.bring_back-requires-clause-known
-bring_back-requires-clause-known c = let q = c.requires.unmarked in let run = c.args.self.now in
+pub give_back-requires-clause-known : goal.give_back-requires-clause-known
+give_back-requires-clause-known c = let q = c.requires.unmarked in let run = c.args.self.now in
     (moved_can_bring q.scene q.good q.far run c.take_out.new.self q.shows c.args.ep c.in-Some.urb (subst (FirstAwake q.scene q.far c.args.ep) c.in-Some.is (c.first_awake.ensures q.scene q.far q.shows))
     c.in-Some-take_out.t (subst (λ (o : Option Transfer). TakesOut run c.take_out.new.self c.in-Some.urb o) c.in-Some-take_out.is c.take_out.ensures)
     c.move_on.new.self c.move_on.new.t c.move_on.result c.move_on.ensures).known
 
-pub bring_back-requires-clause-there : goal.bring_back-requires-clause-there
-bring_back-requires-clause-there c = let q = c.requires.unmarked in let run = c.args.self.now in
+pub give_back-requires-clause-there : goal.give_back-requires-clause-there
+give_back-requires-clause-there c = let q = c.requires.unmarked in let run = c.args.self.now in
     (moved_can_bring q.scene q.good q.far run c.take_out.new.self q.shows c.args.ep c.in-Some.urb (subst (FirstAwake q.scene q.far c.args.ep) c.in-Some.is (c.first_awake.ensures q.scene q.far q.shows))
     c.in-Some-take_out.t (subst (λ (o : Option Transfer). TakesOut run c.take_out.new.self c.in-Some.urb o) c.in-Some-take_out.is c.take_out.ensures)
     c.move_on.new.self c.move_on.new.t c.move_on.result c.move_on.ensures).there
 
-pub bring_back-requires-clause-home : goal.bring_back-requires-clause-home
-bring_back-requires-clause-home c = let q = c.requires.unmarked in let run = c.args.self.now in
+pub give_back-requires-clause-home : goal.give_back-requires-clause-home
+give_back-requires-clause-home c = let q = c.requires.unmarked in let run = c.args.self.now in
     (moved_can_bring q.scene q.good q.far run c.take_out.new.self q.shows c.args.ep c.in-Some.urb (subst (FirstAwake q.scene q.far c.args.ep) c.in-Some.is (c.first_awake.ensures q.scene q.far q.shows))
     c.in-Some-take_out.t (subst (λ (o : Option Transfer). TakesOut run c.take_out.new.self c.in-Some.urb o) c.in-Some-take_out.is c.take_out.ensures)
     c.move_on.new.self c.move_on.new.t c.move_on.result c.move_on.ensures).home
 
-pub bring_back-requires-clause-core : goal.bring_back-requires-clause-core
-bring_back-requires-clause-core c = let q = c.requires.unmarked in let run = c.args.self.now in
+pub give_back-requires-clause-core : goal.give_back-requires-clause-core
+give_back-requires-clause-core c = let q = c.requires.unmarked in let run = c.args.self.now in
     (moved_can_bring q.scene q.good q.far run c.take_out.new.self q.shows c.args.ep c.in-Some.urb (subst (FirstAwake q.scene q.far c.args.ep) c.in-Some.is (c.first_awake.ensures q.scene q.far q.shows))
     c.in-Some-take_out.t (subst (λ (o : Option Transfer). TakesOut run c.take_out.new.self c.in-Some.urb o) c.in-Some-take_out.is c.take_out.ensures)
     c.move_on.new.self c.move_on.new.t c.move_on.result c.move_on.ensures).core
 
-pub bring_back-requires-clause-asks : goal.bring_back-requires-clause-asks
-bring_back-requires-clause-asks c = let q = c.requires.unmarked in let run = c.args.self.now in
+pub give_back-requires-clause-asks : goal.give_back-requires-clause-asks
+give_back-requires-clause-asks c = let q = c.requires.unmarked in let run = c.args.self.now in
     (moved_can_bring q.scene q.good q.far run c.take_out.new.self q.shows c.args.ep c.in-Some.urb (subst (FirstAwake q.scene q.far c.args.ep) c.in-Some.is (c.first_awake.ensures q.scene q.far q.shows))
     c.in-Some-take_out.t (subst (λ (o : Option Transfer). TakesOut run c.take_out.new.self c.in-Some.urb o) c.in-Some-take_out.is c.take_out.ensures)
     c.move_on.new.self c.move_on.new.t c.move_on.result c.move_on.ensures).asks
@@ -92,10 +92,10 @@ pub returns-clause-falls : goal.returns-clause-falls
 returns-clause-falls c = let q = c.requires.unmarked in let run = c.args.self.now in
     falls_ending q.scene q.good q.far run c.take_out.new.self q.shows c.args.ep c.in-Some.urb (subst (FirstAwake q.scene q.far c.args.ep) c.in-Some.is (c.first_awake.ensures q.scene q.far q.shows))
     c.in-Some-take_out.t (subst (λ (o : Option Transfer). TakesOut run c.take_out.new.self c.in-Some.urb o) c.in-Some-take_out.is c.take_out.ensures)
-    c.move_on.new.self c.move_on.new.t c.move_on.result c.move_on.ensures c.in-Some-move_on.code c.in-Some-move_on.is c.bring_back.new.self c.in_ok-bring_back.ensures.back q.none
+    c.move_on.new.self c.move_on.new.t c.move_on.result c.move_on.ensures c.in-Some-move_on.code c.in-Some-move_on.is c.give_back.new.self c.in_ok-give_back.ensures.back q.none
 
 pub returns-clause-served : goal.returns-clause-served
 returns-clause-served c = λ s f good shows none. let run = c.args.self.now in
     by_ending s good f run c.take_out.new.self shows c.args.ep c.in-Some.urb (subst (FirstAwake s f c.args.ep) c.in-Some.is (c.first_awake.ensures s f shows))
     c.in-Some-take_out.t (subst (λ (o : Option Transfer). TakesOut run c.take_out.new.self c.in-Some.urb o) c.in-Some-take_out.is c.take_out.ensures)
-    c.move_on.new.self c.move_on.new.t c.move_on.result c.move_on.ensures c.in-Some-move_on.code c.in-Some-move_on.is c.bring_back.new.self c.in_ok-bring_back.ensures.back none
+    c.move_on.new.self c.move_on.new.t c.move_on.result c.move_on.ensures c.in-Some-move_on.code c.in-Some-move_on.is c.give_back.new.self c.in_ok-give_back.ensures.back none

@@ -6,7 +6,7 @@ use Rattle.usb_machine.specs.declared.layout.Shape.{Shape}
 use Rattle.usb_xfer.specs.Direction.{Direction, In, Out, ControlIn, ControlOut, direction_of}
 use Rattle.usb_xfer.specs.Moved.{acked_in}
 use Rattle.usb_scene.specs.declared.scene.Scene.{Scene}
-use Rattle.usb_line.specs.declared.made.Given.{Given}
+use Rattle.usb_line.specs.declared.made.GivebackRow.{GivebackRow}
 use Rattle.usb_line.specs.declared.run.Received.{Received}
 use Rattle.usb_prepare.specs.Ends.{shape_at}
 use Rattle.usb_prepare.specs.Layout.{home}
@@ -28,8 +28,8 @@ abbrev pub brought_bytes : Shape → Transfer → List ℕ
 brought_bytes shape t = if comes_in (direction_of shape t) then moved_bytes t else []
 
 -- what the report prints of a giveback
-abbrev pub given_of : Scene → Giveback → Given
-given_of s r = let t = moved_in s r in
+abbrev pub giveback_row : Scene → Giveback → GivebackRow
+giveback_row s r = let t = moved_in s r in
     record { urb = r.urb; status = r.status; actual = t.actual; outcome = r.outcome; bytes = brought_bytes (shape_at s (home s r.urb)) t }
 
 -- the bytes of an OUT transfer that were acknowledged when it came back

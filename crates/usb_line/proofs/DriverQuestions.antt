@@ -29,7 +29,7 @@ use Rattle.usb_class.specs.declared.class_core.Core.{Core}
 use Rattle.usb_class.specs.Done.{Done}
 use Rattle.usb_class.specs.Origin.{Origin}
 use Rattle.usb_class.specs.Roles.{role_in}
-use Rattle.usb_class.specs.Asking.{question_by, is_answer, still_out}
+use Rattle.usb_class.specs.Questions.{question_by, is_answer, still_out}
 use Rattle.usb_class.specs.Handler.{action_of, is_ctl}
 use Rattle.usb_class.specs.Core.{IsCore, is_asking, CanUnask}
 use Rattle.usb_class.proofs.Facts.{asks_by}
@@ -39,15 +39,15 @@ use Rattle.usb_prepare.specs.Layout.{home}
 use Rattle.usb_prepare.specs.Prepared.{bindings_of}
 use Rattle.usb_line.specs.declared.owner.Owner.{Owner}
 use Rattle.usb_line.specs.declared.made.Outcome.TheVariants as outcome
-use Rattle.usb_line.specs.declared.giveback.Inquiry.{Inquiry}
+use Rattle.usb_line.specs.declared.giveback.PosedQuestion.{PosedQuestion}
 use Rattle.usb_line.specs.declared.run.UrbRow.{UrbRow}
 use Rattle.usb_line.specs.declared.run.EndRow.{EndRow}
 use Rattle.usb_line.specs.declared.run.LineRun.{LineRun}
-use Rattle.usb_line.specs.Prepared.{owner_of, origin_of, Asking, asking_with, asking_by, asking_of}
+use Rattle.usb_line.specs.Prepared.{owner_of, origin_of, Question, question_with, owner_question, question_at}
 use Rattle.usb_line.specs.Run.{Giveback, moved_in, action_by, is_accepted, out_after, is_out, question_out, asks_or_rests, done_in, done_at}
 use Rattle.usb_line.specs.Line.{submit_answer, outcome_by}
 use Rattle.usb_line.specs.Shows.{ShowsCores}
-use Rattle.usb_line.specs.Back.{Noted, CanAsk, CanInquire, CanSettle, GaveInquiry, InquiryOf, InquiryWith, InquiryBy, Settled, IsPosedBy, ArePosed}
+use Rattle.usb_line.specs.Back.{Noted, CanAsk, CanPoseQuestion, CanSettle, GaveQuestion, QuestionOf, QuestionWith, QuestionBy, Settled, IsPosedBy, ArePosed}
 use Rattle.usb_line.proofs.Owners.{owner_bound}
 use Rattle.usb_line.proofs.Lookups.{each_set}
 
@@ -215,7 +215,7 @@ module _ (s : Scene) (rounds : List Giveback) (r : Giveback) where
         record { all = now.all; each = now.each; out = now.out }
 
 -- what a giveback asks, and what its driver's core then knows
-pub record IsInquired (s : Scene) (rounds : List Giveback) (r : Giveback) (asking : LineRun) (q : Option Inquiry) : Type 0 where
+pub record IsQuestionPosed (s : Scene) (rounds : List Giveback) (r : Giveback) (asking : LineRun) (q : Option PosedQuestion) : Type 0 where
   pub posed : ArePosed s r q
   pub cores : (acted new : LineRun) → acted.cores ≡ asking.cores → Settled acted new q r.outcome → ShowsCores s (rounds ++ r ∷ []) new.cores.items
 
@@ -231,13 +231,13 @@ IsSeen s run urb = (row : UrbRow) × (end : EndRow) × (slice_get run.urbs.items
 
 module _ (s : Scene) (rounds : List Giveback) (r : Giveback) (h : List Entry) where
   -- what the handler does, by what its driver says
-  did_again : (asking : Option Asking) (out : Bool) (from len : ℕ) → outcome_by s h r.urb asking (asks_or_rests asking out (action.Again from len)) ≡ outcome.Again (refusal (state_of h r.urb))
+  did_again : (asking : Option Question) (out : Bool) (from len : ℕ) → outcome_by s h r.urb asking (asks_or_rests asking out (action.Again from len)) ≡ outcome.Again (refusal (state_of h r.urb))
   did_again None true from len = refl
   did_again None false from len = refl
   did_again (Some a) true from len = refl
   did_again (Some a) false from len = refl
 
-  did_rest : (asking : Option Asking) (out : Bool) → outcome_by s h r.urb asking (asks_or_rests asking out action.Rest) ≡ outcome.Rest
+  did_rest : (asking : Option Question) (out : Bool) → outcome_by s h r.urb asking (asks_or_rests asking out action.Rest) ≡ outcome.Rest
   did_rest None true = refl
   did_rest None false = refl
   did_rest (Some a) true = refl
@@ -247,15 +247,15 @@ module _ (s : Scene) (rounds : List Giveback) (r : Giveback) (h : List Entry) wh
   did_none true = refl
   did_none false = refl
 
-  did_out : (asking : Option Asking) → outcome_by s h r.urb asking (asks_or_rests asking true action.Ask) ≡ outcome.Rest
+  did_out : (asking : Option Question) → outcome_by s h r.urb asking (asks_or_rests asking true action.Ask) ≡ outcome.Rest
   did_out None = refl
   did_out (Some a) = refl
 
   -- where no driver has the URB, nothing is asked
-  pub inquired_none : (old : List Core) (decided asking : LineRun) (q : Option Inquiry) (may : Bool) (act : Action) → owner_of s r.urb ≡ None → ShowsCores s rounds old → decided.cores.items ≡ old
-      → act ≡ action_by None may r.status (moved_in s r) → InquiryBy decided asking None act q
-      → r.outcome ≡ outcome_by s h r.urb (asking_of s r.urb) (asks_or_rests (asking_of s r.urb) (question_out s rounds (owner_of s r.urb)) act) → IsInquired s rounds r asking q
-  inquired_none old decided asking q may act none shows same acts by did = record {
+  pub posed_none : (old : List Core) (decided asking : LineRun) (q : Option PosedQuestion) (may : Bool) (act : Action) → owner_of s r.urb ≡ None → ShowsCores s rounds old → decided.cores.items ≡ old
+      → act ≡ action_by None may r.status (moved_in s r) → QuestionBy decided asking None act q
+      → r.outcome ≡ outcome_by s h r.urb (question_at s r.urb) (asks_or_rests (question_at s r.urb) (question_out s rounds (owner_of s r.urb)) act) → IsQuestionPosed s rounds r asking q
+  posed_none old decided asking q may act none shows same acts by did = record {
     posed = posed;
     cores = λ acted new cores settled. unowned s rounds r none old new.cores.items shows
         (settled_none acted new (subst (λ q. Settled acted new q r.outcome) by.0 settled) ∙ ((λ i. (cores i).items) ∙ ((λ i. (by.1 i).items) ∙ same)));
@@ -265,23 +265,23 @@ module _ (s : Scene) (rounds : List Giveback) (r : Giveback) (h : List Entry) wh
       settled_none acted new is = (λ i. (is i).cores.items)
 
       go : (b : Bool) → act ≡ action_by None b r.status (moved_in s r) → ArePosed s r q
-      go true is = subst (λ o. IsPosedBy s (asking_of s r.urb) o q)
-          (sym (did ∙ (ap (λ a. outcome_by s h r.urb (asking_of s r.urb) (asks_or_rests (asking_of s r.urb) (question_out s rounds (owner_of s r.urb)) a)) is ∙ did_again (asking_of s r.urb) (question_out s rounds (owner_of s r.urb)) (moved_in s r).from (moved_in s r).len))) tt
-      go false is = subst (λ o. IsPosedBy s (asking_of s r.urb) o q)
-          (sym (did ∙ (ap (λ a. outcome_by s h r.urb (asking_of s r.urb) (asks_or_rests (asking_of s r.urb) (question_out s rounds (owner_of s r.urb)) a)) is ∙ did_rest (asking_of s r.urb) (question_out s rounds (owner_of s r.urb))))) by.0
+      go true is = subst (λ o. IsPosedBy s (question_at s r.urb) o q)
+          (sym (did ∙ (ap (λ a. outcome_by s h r.urb (question_at s r.urb) (asks_or_rests (question_at s r.urb) (question_out s rounds (owner_of s r.urb)) a)) is ∙ did_again (question_at s r.urb) (question_out s rounds (owner_of s r.urb)) (moved_in s r).from (moved_in s r).len))) tt
+      go false is = subst (λ o. IsPosedBy s (question_at s r.urb) o q)
+          (sym (did ∙ (ap (λ a. outcome_by s h r.urb (question_at s r.urb) (asks_or_rests (question_at s r.urb) (question_out s rounds (owner_of s r.urb)) a)) is ∙ did_rest (question_at s r.urb) (question_out s rounds (owner_of s r.urb))))) by.0
 
       posed : ArePosed s r q
       posed = go may acts
 
   -- where a driver has it
-  module _ (o : Owner) (is : owner_of s r.urb ≡ Some o) (decided asking : LineRun) (q : Option Inquiry) (act : Action) (acts : act ≡ action_of o.driver o.role r.status (moved_in s r))
+  module _ (o : Owner) (is : owner_of s r.urb ≡ Some o) (decided asking : LineRun) (q : Option PosedQuestion) (act : Action) (acts : act ≡ action_of o.driver o.role r.status (moved_in s r))
       (has : Now s rounds r o is (noted_out s rounds r o is) decided.cores.items)
-      (did : r.outcome ≡ outcome_by s h r.urb (asking_of s r.urb) (asks_or_rests (asking_of s r.urb) (is_out s o.place rounds) act)) (sees : (urb : UrbId) → o.ctl ≡ Some urb → IsSeen s decided urb) where
-    did_as : (a : Action) → act ≡ a → r.outcome ≡ outcome_by s h r.urb (asking_of s r.urb) (asks_or_rests (asking_of s r.urb) (is_out s o.place rounds) a)
-    did_as a e = did ∙ ap (λ a. outcome_by s h r.urb (asking_of s r.urb) (asks_or_rests (asking_of s r.urb) (is_out s o.place rounds) a)) e
+      (did : r.outcome ≡ outcome_by s h r.urb (question_at s r.urb) (asks_or_rests (question_at s r.urb) (is_out s o.place rounds) act)) (sees : (urb : UrbId) → o.ctl ≡ Some urb → IsSeen s decided urb) where
+    did_as : (a : Action) → act ≡ a → r.outcome ≡ outcome_by s h r.urb (question_at s r.urb) (asks_or_rests (question_at s r.urb) (is_out s o.place rounds) a)
+    did_as a e = did ∙ ap (λ a. outcome_by s h r.urb (question_at s r.urb) (asks_or_rests (question_at s r.urb) (is_out s o.place rounds) a)) e
 
     -- nothing is asked
-    quietly : (q ≡ None) × (asking.cores ≡ decided.cores) → ArePosed s r q → is_accepted r.outcome ≡ false → IsInquired s rounds r asking q
+    quietly : (q ≡ None) × (asking.cores ≡ decided.cores) → ArePosed s r q → is_accepted r.outcome ≡ false → IsQuestionPosed s rounds r asking q
     quietly by posed none = record {
       posed = posed;
       cores = λ acted new cores settled. unasked s rounds r o is decided.cores.items new.cores.items has
@@ -291,8 +291,8 @@ module _ (s : Scene) (rounds : List Giveback) (r : Giveback) (h : List Entry) wh
         settled_none : (acted new : LineRun) → Settled acted new None r.outcome → new.cores.items ≡ acted.cores.items
         settled_none acted new is = (λ i. (is i).cores.items)
 
-    rests_quietly : (q ≡ None) × (asking.cores ≡ decided.cores) → r.outcome ≡ outcome.Rest → IsInquired s rounds r asking q
-    rests_quietly by rest = quietly by (subst (λ x. IsPosedBy s (asking_of s r.urb) x q) (sym rest) by.0) (ap is_accepted rest)
+    rests_quietly : (q ≡ None) × (asking.cores ≡ decided.cores) → r.outcome ≡ outcome.Rest → IsQuestionPosed s rounds r asking q
+    rests_quietly by rest = quietly by (subst (λ x. IsPosedBy s (question_at s r.urb) x q) (sym rest) by.0) (ap is_accepted rest)
 
     -- a driver that asks does so after a job
     module _ (asks : act ≡ action.Ask) where
@@ -308,15 +308,15 @@ module _ (s : Scene) (rounds : List Giveback) (r : Giveback) (h : List Entry) wh
       known : (core : Core) → slice_get decided.cores.items o.place ≡ Some core → is_asking core ≡ out
       known core at = has.out o.place core at ∙ (at_here s rounds r o is (cond (is_answer o.driver (origin_of s o.place) o.role (moved_in s r)) false out) (λ j. is_out s j rounds) ∙ ap (λ b. cond b false out) no_answer)
 
-      asking_so : (ctl : Option UrbId) (t : Option Transfer) → o.ctl ≡ ctl → question_by o.driver (origin_of s o.place) ≡ t → asking_of s r.urb ≡ asking_with ctl t
-      unfolding asking_of
-      asking_so ctl t e f = ap (asking_by s) is ∙ (ap (λ b. cond b None (asking_with o.ctl (question_by o.driver (origin_of s o.place)))) (ap is_ctl write) ∙ (λ i. asking_with (e i) (f i)))
+      asking_so : (ctl : Option UrbId) (t : Option Transfer) → o.ctl ≡ ctl → question_by o.driver (origin_of s o.place) ≡ t → question_at s r.urb ≡ question_with ctl t
+      unfolding question_at
+      asking_so ctl t e f = ap (owner_question s) is ∙ (ap (λ b. cond b None (question_with o.ctl (question_by o.driver (origin_of s o.place)))) (ap is_ctl write) ∙ (λ i. question_with (e i) (f i)))
 
-      did_by : (asking : Option Asking) → asking_of s r.urb ≡ asking → (b : Bool) → out ≡ b → r.outcome ≡ outcome_by s h r.urb asking (asks_or_rests asking b action.Ask)
+      did_by : (asking : Option Question) → question_at s r.urb ≡ asking → (b : Bool) → out ≡ b → r.outcome ≡ outcome_by s h r.urb asking (asks_or_rests asking b action.Ask)
       did_by asking e b f = did_as action.Ask asks ∙ (λ i. outcome_by s h r.urb (e i) (asks_or_rests (e i) (f i) action.Ask))
 
       -- its core has seen as much, and its question stands so
-      module _ (core after : Core) (t : Option Transfer) (at : slice_get decided.cores.items o.place ≡ Some core) (set : asking.cores.items ≡ slice_set decided.cores.items o.place after) (gave : GaveInquiry core after t) where
+      module _ (core after : Core) (t : Option Transfer) (at : slice_get decided.cores.items o.place ≡ Some core) (set : asking.cores.items ≡ slice_set decided.cores.items o.place after) (gave : GaveQuestion core after t) where
         abbrev b : (b : Bound) × (slice_get (bindings_of s) o.place ≡ Some b) × (b.driver ≡ o.driver) × (role_in r.urb b ≡ Some o.role)
         b = owner_bound s r.urb o is
 
@@ -330,10 +330,10 @@ module _ (s : Scene) (rounds : List Giveback) (r : Giveback) (h : List Entry) wh
         now = replaced s rounds r o is decided.cores.items asking.cores.items core after (cond (is_some t) true out) has at set (λ seen. got.1) (got.2 ∙ ap (λ x. cond (is_some t) true x) (known core at))
 
       -- the core gave none
-      none_given : (core after : Core) → slice_get decided.cores.items o.place ≡ Some core → asking.cores.items ≡ slice_set decided.cores.items o.place after → GaveInquiry core after None → (urb : UrbId) → o.ctl ≡ Some urb
-          → q ≡ None → IsInquired s rounds r asking q
+      none_given : (core after : Core) → slice_get decided.cores.items o.place ≡ Some core → asking.cores.items ≡ slice_set decided.cores.items o.place after → GaveQuestion core after None → (urb : UrbId) → o.ctl ≡ Some urb
+          → q ≡ None → IsQuestionPosed s rounds r asking q
       none_given core after at set gave urb ctl none = record {
-        posed = subst (λ x. IsPosedBy s (asking_of s r.urb) x q) (sym rest) none;
+        posed = subst (λ x. IsPosedBy s (question_at s r.urb) x q) (sym rest) none;
         cores = λ acted new cores settled. settled_cores s rounds r o is new.cores.items out
             (subst (λ l. Now s rounds r o is (λ j. cond (eqb o.place j) out (is_out s j rounds)) l) (sym (settled_none acted new (subst (λ q. Settled acted new q r.outcome) none settled) ∙ (λ i. (cores i).items))) (now core after None at set gave))
             (sym (ap (λ b. cond b false (out || is_accepted r.outcome)) no_answer ∙ (ap (λ x. out || is_accepted x) rest ∙ or_false s rounds r out)));
@@ -343,24 +343,24 @@ module _ (s : Scene) (rounds : List Giveback) (r : Giveback) (h : List Entry) wh
           settled_none acted new is = (λ i. (is i).cores.items)
 
           by_out : (x : Bool) → out ≡ x → None ≡ cond x None (question_by o.driver (origin_of s o.place)) → r.outcome ≡ outcome.Rest
-          by_out true e g = did_by (asking_of s r.urb) refl true e ∙ did_out (asking_of s r.urb)
+          by_out true e g = did_by (question_at s r.urb) refl true e ∙ did_out (question_at s r.urb)
           by_out false e g = did_by None (asking_so (Some urb) None ctl (sym g)) false e
 
           rest : r.outcome ≡ outcome.Rest
           rest = by_out out refl (given core after None at set gave)
 
       -- it gave this one
-      abbrev asked_with : UrbId → Inquiry → Asking
+      abbrev asked_with : UrbId → PosedQuestion → Question
       asked_with urb x = record { urb = urb.0; transfer = x.transfer }
 
-      abbrev answer : UrbId → Inquiry → Code
+      abbrev answer : UrbId → PosedQuestion → Code
       answer urb x = submit_answer (shape_fault (shape_at s (home s urb.0)) x.transfer) (refusal (state_of h urb.0))
 
-      some_given : (core after : Core) (x : Inquiry) → slice_get decided.cores.items o.place ≡ Some core → asking.cores.items ≡ slice_set decided.cores.items o.place after → GaveInquiry core after (Some x.transfer)
+      some_given : (core after : Core) (x : PosedQuestion) → slice_get decided.cores.items o.place ≡ Some core → asking.cores.items ≡ slice_set decided.cores.items o.place after → GaveQuestion core after (Some x.transfer)
           → (urb : UrbId) → o.ctl ≡ Some urb → q ≡ Some x → x.place ≡ o.place → x.urb ≡ urb
-          → ((row : UrbRow) (end : EndRow) → slice_get decided.urbs.items urb.0 ≡ Some row → slice_get decided.ends.items row.home ≡ Some end → x.fault ≡ shape_fault end.shape x.transfer) → IsInquired s rounds r asking q
+          → ((row : UrbRow) (end : EndRow) → slice_get decided.urbs.items urb.0 ≡ Some row → slice_get decided.ends.items row.home ≡ Some end → x.fault ≡ shape_fault end.shape x.transfer) → IsQuestionPosed s rounds r asking q
       some_given core after x at set gave urb ctl this place same fault = record {
-        posed = subst (ArePosed s r) (sym this) (subst (λ y. IsPosedBy s (asking_of s r.urb) y (Some x)) (sym asked) (subst (λ y. IsPosedBy s y (outcome.Asked (answer urb x)) (Some x)) (sym one) record {
+        posed = subst (ArePosed s r) (sym this) (subst (λ y. IsPosedBy s (question_at s r.urb) y (Some x)) (sym asked) (subst (λ y. IsPosedBy s y (outcome.Asked (answer urb x)) (Some x)) (sym one) record {
           urb = ap (λ (u : UrbId). u.0) same;
           transfer = refl;
           fault = fault seen.0 seen.1 seen.2 seen.3 ∙ ap (λ shape. shape_fault shape x.transfer) seen.4;
@@ -378,7 +378,7 @@ module _ (s : Scene) (rounds : List Giveback) (r : Giveback) (h : List Entry) wh
           free : (out ≡ false) × (question_by o.driver (origin_of s o.place) ≡ Some x.transfer)
           free = idle out refl (given core after (Some x.transfer) at set gave)
 
-          one : asking_of s r.urb ≡ Some (asked_with urb x)
+          one : question_at s r.urb ≡ Some (asked_with urb x)
           one = asking_so (Some urb) (Some x.transfer) ctl free.1
 
           asked : r.outcome ≡ outcome.Asked (answer urb x)
@@ -399,27 +399,27 @@ module _ (s : Scene) (rounds : List Giveback) (r : Giveback) (h : List Entry) wh
               (back.3 ∙ (λ i. slice_set (cores i).items (place i) back.1)) (back.4.0 (b core after (Some x.transfer) at set gave).0.driver (origin_of s o.place) (done_at s o.place (rounds ++ r ∷ []))) back.4.1)
               (sym (ap (λ b. cond b false (out || is_accepted r.outcome)) no_answer ∙ (ap (λ y. out || is_accepted y) (asked ∙ ap outcome.Asked e) ∙ (or_false s rounds r out ∙ free.0))))
 
-      by_given : (x : Option Inquiry) (urb : UrbId) → o.ctl ≡ Some urb → q ≡ x → InquiryOf decided asking o urb x → IsInquired s rounds r asking q
+      by_given : (x : Option PosedQuestion) (urb : UrbId) → o.ctl ≡ Some urb → q ≡ x → QuestionOf decided asking o urb x → IsQuestionPosed s rounds r asking q
       by_given None urb ctl this by = none_given by.0 by.1 by.2 by.3 by.4 urb ctl this
       by_given (Some x) urb ctl this by = some_given by.0 by.1 x by.2 by.3 by.4 urb ctl this by.6 by.7 by.8
 
-      asks_inquired : (ctl : Option UrbId) → o.ctl ≡ ctl → InquiryWith decided asking o ctl q → IsInquired s rounds r asking q
-      asks_inquired None ctl by = rests_quietly by (by_out out refl)
+      asks_posed : (ctl : Option UrbId) → o.ctl ≡ ctl → QuestionWith decided asking o ctl q → IsQuestionPosed s rounds r asking q
+      asks_posed None ctl by = rests_quietly by (by_out out refl)
         where
           by_out : (x : Bool) → out ≡ x → r.outcome ≡ outcome.Rest
-          by_out true e = did_by (asking_of s r.urb) refl true e ∙ did_out (asking_of s r.urb)
+          by_out true e = did_by (question_at s r.urb) refl true e ∙ did_out (question_at s r.urb)
           by_out false e = did_by None (asking_so None (question_by o.driver (origin_of s o.place)) ctl refl) false e
-      asks_inquired (Some urb) ctl by = by_given q urb ctl refl by
+      asks_posed (Some urb) ctl by = by_given q urb ctl refl by
 
-    pub inquired_some : InquiryBy decided asking (Some o) act q → IsInquired s rounds r asking q
-    inquired_some by = go act refl by
+    pub posed_some : QuestionBy decided asking (Some o) act q → IsQuestionPosed s rounds r asking q
+    posed_some by = go act refl by
       where
-        go : (a : Action) → act ≡ a → InquiryBy decided asking (Some o) a q → IsInquired s rounds r asking q
-        go action.Rest e by = rests_quietly by (did_as action.Rest e ∙ did_rest (asking_of s r.urb) (is_out s o.place rounds))
+        go : (a : Action) → act ≡ a → QuestionBy decided asking (Some o) a q → IsQuestionPosed s rounds r asking q
+        go action.Rest e by = rests_quietly by (did_as action.Rest e ∙ did_rest (question_at s r.urb) (is_out s o.place rounds))
         go (action.Again from len) e by =
-            let again = did_as (action.Again from len) e ∙ did_again (asking_of s r.urb) (is_out s o.place rounds) from len in
-            quietly by (subst (λ x. IsPosedBy s (asking_of s r.urb) x q) (sym again) tt) (ap is_accepted again)
-        go action.Ask e by = asks_inquired e o.ctl refl by
+            let again = did_as (action.Again from len) e ∙ did_again (question_at s r.urb) (is_out s o.place rounds) from len in
+            quietly by (subst (λ x. IsPosedBy s (question_at s r.urb) x q) (sym again) tt) (ap is_accepted again)
+        go action.Ask e by = asks_posed e o.ctl refl by
 
 -- what stands where an item was put
 put_there : {X : Type 0} (xs : List X) (i : ℕ) (x y : X) → slice_get xs i ≡ Some x → slice_get (slice_set xs i y) i ≡ Some y
@@ -427,54 +427,54 @@ put_there [] i x y at = cc
 put_there (z ∷ xs) zero x y at = refl
 put_there (z ∷ xs) (suc i) x y at = put_there xs i x y at
 
--- the URB of an inquiry is there, and its core may take the question back
+-- the URB of an posed_question is there, and its core may take the question back
 module _ (old new : LineRun) where
-  none_here : {X : Type 0} (q : Option Inquiry) → (q ≡ None) × (new.cores ≡ old.cores) → (x : Inquiry) → q ≡ Some x → X
+  none_here : {X : Type 0} (q : Option PosedQuestion) → (q ≡ None) × (new.cores ≡ old.cores) → (x : PosedQuestion) → q ≡ Some x → X
   none_here q by x is = let no_ = sym by.0 ∙ is in cc
 
-  near_by : (o : Owner) (ctl : Option UrbId) → o.ctl ≡ ctl → (q : Option Inquiry) → InquiryWith old new o ctl q → CanAsk old (Some o) → (x : Inquiry) → q ≡ Some x → (x.urb.0 < length old.urbs.items) × (x.urb.0 < urbs_of old.plain)
+  near_by : (o : Owner) (ctl : Option UrbId) → o.ctl ≡ ctl → (q : Option PosedQuestion) → QuestionWith old new o ctl q → CanAsk old (Some o) → (x : PosedQuestion) → q ≡ Some x → (x.urb.0 < length old.urbs.items) × (x.urb.0 < urbs_of old.plain)
   near_by o None ctl q by can x is = none_here q by x is
   near_by o (Some urb) ctl None by can x is = cc
   near_by o (Some urb) ctl (Some y) by can x is =
       let same : y ≡ x = cc in let a = can urb ctl in
-      subst (λ (x : Inquiry). (x.urb.0 < length old.urbs.items) × (x.urb.0 < urbs_of old.plain)) same
+      subst (λ (x : PosedQuestion). (x.urb.0 < length old.urbs.items) × (x.urb.0 < urbs_of old.plain)) same
       (subst (λ (u : UrbId). (u.0 < length old.urbs.items) × (u.0 < urbs_of old.plain)) (sym by.7) (a.0, a.1))
 
-  pub inquires_near : (o : Option Owner) (act : Action) (q : Option Inquiry) → InquiryBy old new o act q → CanAsk old o → (x : Inquiry) → q ≡ Some x → (x.urb.0 < length old.urbs.items) × (x.urb.0 < urbs_of old.plain)
-  inquires_near None act q by can x is = none_here q by x is
-  inquires_near (Some o) action.Rest q by can x is = none_here q by x is
-  inquires_near (Some o) (action.Again from len) q by can x is = none_here q by x is
-  inquires_near (Some o) action.Ask q by can x is = near_by o o.ctl refl q by can x is
+  pub poses_near : (o : Option Owner) (act : Action) (q : Option PosedQuestion) → QuestionBy old new o act q → CanAsk old o → (x : PosedQuestion) → q ≡ Some x → (x.urb.0 < length old.urbs.items) × (x.urb.0 < urbs_of old.plain)
+  poses_near None act q by can x is = none_here q by x is
+  poses_near (Some o) action.Rest q by can x is = none_here q by x is
+  poses_near (Some o) (action.Again from len) q by can x is = none_here q by x is
+  poses_near (Some o) action.Ask q by can x is = near_by o o.ctl refl q by can x is
 
-  back_by : (o : Owner) (ctl : Option UrbId) → (q : Option Inquiry) → InquiryWith old new o ctl q → (x : Inquiry) → q ≡ Some x → (core : Core) × (slice_get new.cores.items x.place ≡ Some core) × CanUnask core x.transfer
+  back_by : (o : Owner) (ctl : Option UrbId) → (q : Option PosedQuestion) → QuestionWith old new o ctl q → (x : PosedQuestion) → q ≡ Some x → (core : Core) × (slice_get new.cores.items x.place ≡ Some core) × CanUnask core x.transfer
   back_by o None q by x is = none_here q by x is
   back_by o (Some urb) None by x is = cc
   back_by o (Some urb) (Some y) by x is =
       let same : y ≡ x = cc in
-      subst (λ (x : Inquiry). (core : Core) × (slice_get new.cores.items x.place ≡ Some core) × CanUnask core x.transfer) same
+      subst (λ (x : PosedQuestion). (core : Core) × (slice_get new.cores.items x.place ≡ Some core) × CanUnask core x.transfer) same
       (by.1, (λ i. slice_get (by.3 i) (by.6 i)) ∙ put_there old.cores.items o.place by.0 by.1 by.2, by.5)
 
-  pub inquires_back : (o : Option Owner) (act : Action) (q : Option Inquiry) → InquiryBy old new o act q → (x : Inquiry) → q ≡ Some x → (core : Core) × (slice_get new.cores.items x.place ≡ Some core) × CanUnask core x.transfer
-  inquires_back None act q by x is = none_here q by x is
-  inquires_back (Some o) action.Rest q by x is = none_here q by x is
-  inquires_back (Some o) (action.Again from len) q by x is = none_here q by x is
-  inquires_back (Some o) action.Ask q by x is = back_by o o.ctl q by x is
+  pub poses_back : (o : Option Owner) (act : Action) (q : Option PosedQuestion) → QuestionBy old new o act q → (x : PosedQuestion) → q ≡ Some x → (core : Core) × (slice_get new.cores.items x.place ≡ Some core) × CanUnask core x.transfer
+  poses_back None act q by x is = none_here q by x is
+  poses_back (Some o) action.Rest q by x is = none_here q by x is
+  poses_back (Some o) (action.Again from len) q by x is = none_here q by x is
+  poses_back (Some o) action.Ask q by x is = back_by o o.ctl q by x is
 
-  pub inquires_settle : (o : Option Owner) (act : Action) (q : Option Inquiry) → InquiryBy old new o act q → CanAsk old o → (acted : LineRun) → acted.cores ≡ new.cores → length acted.urbs.items ≡ length old.urbs.items → CanSettle acted q
-  inquires_settle o act q by can acted cores count = go q refl
+  pub poses_settle : (o : Option Owner) (act : Action) (q : Option PosedQuestion) → QuestionBy old new o act q → CanAsk old o → (acted : LineRun) → acted.cores ≡ new.cores → length acted.urbs.items ≡ length old.urbs.items → CanSettle acted q
+  poses_settle o act q by can acted cores count = go q refl
     where
-      go : (x : Option Inquiry) → q ≡ x → CanSettle acted x
+      go : (x : Option PosedQuestion) → q ≡ x → CanSettle acted x
       go None is = tt
       go (Some x) is =
-          let back = inquires_back o act q by x is in
-          (subst (λ n. x.urb.0 < n) (sym count) (inquires_near o act q by can x is).0, back.0, (λ i. slice_get (cores i).items x.place) ∙ back.1, back.2)
+          let back = poses_back o act q by x is in
+          (subst (λ n. x.urb.0 < n) (sym count) (poses_near o act q by can x is).0, back.0, (λ i. slice_get (cores i).items x.place) ∙ back.1, back.2)
 
-  pub inquires_within : (o : Option Owner) (act : Action) (q : Option Inquiry) → InquiryBy old new o act q → CanAsk old o → new.plain ≡ old.plain → IfSome q (λ x. x.urb.0 < urbs_of new.plain)
-  inquires_within o act q by can plain = go q refl
+  pub poses_within : (o : Option Owner) (act : Action) (q : Option PosedQuestion) → QuestionBy old new o act q → CanAsk old o → new.plain ≡ old.plain → IfSome q (λ x. x.urb.0 < urbs_of new.plain)
+  poses_within o act q by can plain = go q refl
     where
-      go : (x : Option Inquiry) → q ≡ x → IfSome x (λ x. x.urb.0 < urbs_of new.plain)
+      go : (x : Option PosedQuestion) → q ≡ x → IfSome x (λ x. x.urb.0 < urbs_of new.plain)
       go None is = tt
-      go (Some x) is = subst (λ (p : Plain). x.urb.0 < urbs_of p) (sym plain) (inquires_near o act q by can x is).1
+      go (Some x) is = subst (λ (p : Plain). x.urb.0 < urbs_of p) (sym plain) (poses_near o act q by can x is).1
 
 -- what a driver's question needs stays
 pub can_ask_kept : (old new : LineRun) (o : Option Owner) → new.urbs ≡ old.urbs → new.ends ≡ old.ends → urbs_of new.plain ≡ urbs_of old.plain → CanAsk old o → CanAsk new o
@@ -497,7 +497,7 @@ module _ (run decided : LineRun) (plain : Plain) (kept : decided ≡ record run 
   home_in asking same home is = subst (λ n. home < n) (sym asking.ends.ok.0) (home_asking asking same home is)
 
 -- after what a core took note of, it is there
-pub noted_there : (old new : List Core) (o : Option Owner) (may : Bool) (status : Code) (t : Transfer) (act : Action) → Noted old new o may status t act → CanInquire new o
+pub noted_there : (old new : List Core) (o : Option Owner) (may : Bool) (status : Code) (t : Transfer) (act : Action) → Noted old new o may status t act → CanPoseQuestion new o
 noted_there old new None may status t act noted = tt
 noted_there old new (Some o) may status t act noted =
     let near = slice_get_within old o.place noted.0 noted.2 in

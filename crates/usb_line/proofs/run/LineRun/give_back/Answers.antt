@@ -8,16 +8,16 @@ use Rattle.usb_machine.specs.declared.plain.Plain.{Plain}
 use Rattle.usb_class.specs.Handler.{goes_again}
 use Rattle.usb_line.specs.declared.run.EndRow.{EndRow}
 use Rattle.usb_line.specs.declared.run.LineRun.{LineRun}
-use Rattle.usb_line.specs.Given.{brought_bytes, sent_bytes}
-use Rattle.usb_line.specs.Back.{Adds, Given, Handled}
-use Rattle.usb_line.proofs.Inquiries.{noted_there, can_ask_decided, home_asking, home_in, inquires_within, inquires_settle}
-use Rattle.usb_line.proofs.run.LineRun.bring_back.Goals as goal
+use Rattle.usb_line.specs.GivebackRow.{brought_bytes, sent_bytes}
+use Rattle.usb_line.specs.Back.{Adds, GaveStatus, Handled}
+use Rattle.usb_line.proofs.DriverQuestions.{noted_there, can_ask_decided, home_asking, home_in, poses_within, poses_settle}
+use Rattle.usb_line.proofs.run.LineRun.give_back.Goals as goal
 
-pub inquiry-inquiry-requires-clause-core : goal.inquiry-inquiry-requires-clause-core
-inquiry-inquiry-requires-clause-core c = noted_there c.args.self.now.cores.items c.decide.new.self.cores.items c.index-row.result.now.owner _ c.give-status.result c.args.t c.in_ok-action.action c.in_ok-action.ensures.noted
+pub posed_question-posed_question-requires-clause-core : goal.posed_question-posed_question-requires-clause-core
+posed_question-posed_question-requires-clause-core c = noted_there c.args.self.now.cores.items c.decide.new.self.cores.items c.index-row.result.now.owner _ c.give-status.result c.args.t c.in_ok-action.action c.in_ok-action.ensures.noted
 
-pub inquiry-inquiry-requires-clause-near : goal.inquiry-inquiry-requires-clause-near
-inquiry-inquiry-requires-clause-near c =
+pub posed_question-posed_question-requires-clause-near : goal.posed_question-posed_question-requires-clause-near
+posed_question-posed_question-requires-clause-near c =
     let run = c.args.self.now in
     let decided = c.decide.new.self in
     let row = c.index-row.result.now in
@@ -33,7 +33,7 @@ handle-outcome-requires-clause-asks c =
     let kept : decided ≡ record run { plain = c.give-status.new.plain; cores = decided.cores } = c.in_ok-action.ensures.rest in
     let at : slice_get run.urbs.items c.args.urb ≡ Some row = slice_get-get_or run.urbs.items c.args.urb row c.requires.there ∙ ap Some (sym c.index-row.ensures) in
     let near = can_ask_decided run decided c.give-status.new.plain kept row.owner c.give-status.ensures.counts.urbs (c.requires.asks row at) in
-    inquires_within decided c.inquiry-inquiry.new.self row.owner c.in_ok-action.action c.inquiry-inquiry.result c.inquiry-inquiry.ensures.asked near (ap (λ (r : LineRun). r.plain) c.inquiry-inquiry.ensures.rest)
+    poses_within decided c.posed_question-posed_question.new.self row.owner c.in_ok-action.action c.posed_question-posed_question.result c.posed_question-posed_question.ensures.asked near (ap (λ (r : LineRun). r.plain) c.posed_question-posed_question.ensures.rest)
 
 pub index-requires : goal.index-requires
 index-requires c =
@@ -42,7 +42,7 @@ index-requires c =
     let row = c.index-row.result.now in
     let kept : decided ≡ record run { plain = c.give-status.new.plain; cores = decided.cores } = c.in_ok-action.ensures.rest in
     let at : slice_get run.urbs.items c.args.urb ≡ Some row = slice_get-get_or run.urbs.items c.args.urb row c.requires.there ∙ ap Some (sym c.index-row.ensures) in
-    home_in run decided c.give-status.new.plain kept c.inquiry-inquiry.new.self c.inquiry-inquiry.ensures.rest row.home (c.requires.home row at)
+    home_in run decided c.give-status.new.plain kept c.posed_question-posed_question.new.self c.posed_question-posed_question.ensures.rest row.home (c.requires.home row at)
 
 pub index_mut-requires : goal.index_mut-requires
 index_mut-requires c =
@@ -51,7 +51,7 @@ index_mut-requires c =
     let row = c.index-row.result.now in
     let kept : decided ≡ record run { plain = c.give-status.new.plain; cores = decided.cores } = c.in_ok-action.ensures.rest in
     let at : slice_get run.urbs.items c.args.urb ≡ Some row = slice_get-get_or run.urbs.items c.args.urb row c.requires.there ∙ ap Some (sym c.index-row.ensures) in
-    home_in run decided c.give-status.new.plain kept c.inquiry-inquiry.new.self c.inquiry-inquiry.ensures.rest row.home (c.requires.home row at)
+    home_in run decided c.give-status.new.plain kept c.posed_question-posed_question.new.self c.posed_question-posed_question.ensures.rest row.home (c.requires.home row at)
 
 pub settle-requires : goal.settle-requires
 settle-requires c =
@@ -60,25 +60,25 @@ settle-requires c =
     let row = c.index-row.result.now in
     let kept : decided ≡ record run { plain = c.give-status.new.plain; cores = decided.cores } = c.in_ok-action.ensures.rest in
     let at : slice_get run.urbs.items c.args.urb ≡ Some row = slice_get-get_or run.urbs.items c.args.urb row c.requires.there ∙ ap Some (sym c.index-row.ensures) in
-    let asking = c.inquiry-inquiry.new.self in
+    let asking = c.posed_question-posed_question.new.self in
     let near = can_ask_decided run decided c.give-status.new.plain kept row.owner c.give-status.ensures.counts.urbs (c.requires.asks row at) in
-    inquires_settle decided asking row.owner c.in_ok-action.action c.inquiry-inquiry.result c.inquiry-inquiry.ensures.asked near (record asking {
+    poses_settle decided asking row.owner c.in_ok-action.action c.posed_question-posed_question.result c.posed_question-posed_question.ensures.asked near (record asking {
       plain = c.handle-outcome.new.plain;
       ends = with_item asking.ends row.home (record c.index_mut.result.now { received = c.note.new.self });
       urbs = with_item asking.urbs c.args.urb (record { home = row.home; owner = row.owner; again = c.saturating_sub.result; transfer = c.left_with.result });
       given = c.push.new.self;
     }) refl
-    (length-set asking.urbs.items c.args.urb _ ∙ ap (λ (r : LineRun). length r.urbs.items) c.inquiry-inquiry.ensures.rest)
+    (length-set asking.urbs.items c.args.urb _ ∙ ap (λ (r : LineRun). length r.urbs.items) c.posed_question-posed_question.ensures.rest)
 
 pub returns : goal.returns
 returns c =
     let run = c.args.self.now in
     let decided = c.decide.new.self in
-    let asking = c.inquiry-inquiry.new.self in
+    let asking = c.posed_question-posed_question.new.self in
     let row = c.index-row.result.now in
     let end = c.index_mut.result.now in
     let kept : decided ≡ record run { plain = c.give-status.new.plain; cores = decided.cores } = c.in_ok-action.ensures.rest in
-    let same : asking ≡ record decided { cores = asking.cores } = c.inquiry-inquiry.ensures.rest in
+    let same : asking ≡ record decided { cores = asking.cores } = c.posed_question-posed_question.ensures.rest in
     let plain = ap (λ (r : LineRun). r.plain) kept in
     let whole : asking ≡ record run { plain = c.give-status.new.plain; cores = asking.cores } = same ∙ (λ i. record (kept i) { cores = asking.cores }) in
     let ends = ap (λ (r : LineRun). r.ends.items) whole in
@@ -101,11 +101,11 @@ returns c =
         action = c.in_ok-action.action;
         decided = decided;
         noted = c.in_ok-action.ensures.noted;
-        given = subst (λ (p : Plain). Given run.plain p c.args.urb c.args.ended c.give-status.result) (sym plain) c.give-status.ensures.given;
+        given = subst (λ (p : Plain). GaveStatus run.plain p c.args.urb c.args.ended c.give-status.result) (sym plain) c.give-status.ensures.given;
         decided_so = kept ∙ (λ i. record run { plain = sym plain i; cores = decided.cores });
-        inquiry = c.inquiry-inquiry.result;
+        posed_question = c.posed_question-posed_question.result;
         asking = asking;
-        asked = c.inquiry-inquiry.ensures.asked;
+        asked = c.posed_question-posed_question.ensures.asked;
         asking_so = same;
         acted = record asking {
           plain = c.handle-outcome.new.plain;
@@ -113,8 +113,8 @@ returns c =
           urbs = with_item asking.urbs c.args.urb (record { home = row.home; owner = row.owner; again = c.saturating_sub.result; transfer = c.left_with.result });
           given = c.push.new.self;
         };
-        handled = subst (λ (p : Plain). Handled p c.handle-outcome.new.plain c.args.urb (goes_again c.in_ok-action.action) c.args.t.number c.inquiry-inquiry.result c.handle-outcome.result) (ap (λ (r : LineRun). r.plain) same)
-            (subst (λ b. Handled asking.plain c.handle-outcome.new.plain c.args.urb b c.args.t.number c.inquiry-inquiry.result c.handle-outcome.result) c.goes_again.ensures c.handle-outcome.ensures.handled);
+        handled = subst (λ (p : Plain). Handled p c.handle-outcome.new.plain c.args.urb (goes_again c.in_ok-action.action) c.args.t.number c.posed_question-posed_question.result c.handle-outcome.result) (ap (λ (r : LineRun). r.plain) same)
+            (subst (λ b. Handled asking.plain c.handle-outcome.new.plain c.args.urb b c.args.t.number c.posed_question-posed_question.result c.handle-outcome.result) c.goes_again.ensures c.handle-outcome.ensures.handled);
         rows = (λ i. slice_set (whole i).urbs.items c.args.urb (record { home = row.home; owner = row.owner; again = c.saturating_sub.ensures i; transfer = c.left_with.ensures i }));
         more = subst (λ (x : Shape). Adds end.received c.note.new.self (sent_bytes x c.args.t)) shape c.in_ok-note.ensures;
         ends_so = ap (λ l. slice_set l row.home (record end { received = c.note.new.self })) ends;

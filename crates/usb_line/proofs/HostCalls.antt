@@ -15,41 +15,41 @@ use Rattle.usb_scene.specs.declared.scene.Target.TheVariants as target
 use Rattle.usb_scene.specs.WellFormed.{IsBuilt, IsCall, role_number, is_on, raised, withdrawn, is_hub_call, IsWellFormed}
 use Rattle.usb_prepare.specs.Layout.{urb_count, role_urb}
 use Rattle.usb_prepare.proofs.Facts as facts
-use Rattle.usb_line.specs.declared.made.Deed.{Deed}
-use Rattle.usb_line.specs.declared.made.Deed.TheVariants as deed
-use Rattle.usb_line.specs.Prepared.{deed_on, deed_on_any, deed_called, called_urb, deed_by, deed_of}
+use Rattle.usb_line.specs.declared.made.HostCall.{HostCall}
+use Rattle.usb_line.specs.declared.made.HostCall.TheVariants as host_call
+use Rattle.usb_line.specs.Prepared.{host_call_on, host_call_on_any, host_call_called, called_urb, host_call_by, host_call_of}
 use Rattle.usb_line.proofs.Called.{called_near}
 
--- how many rejects a deed raises on URB v, and how many it withdraws
-abbrev pub raises : ℕ → Deed → ℕ
-raises v (deed.Poison u) = cond (eqb u v) 1 0
-raises v (deed.Block u) = cond (eqb u v) 1 0
+-- how many rejects a host_call raises on URB v, and how many it withdraws
+abbrev pub raises : ℕ → HostCall → ℕ
+raises v (host_call.Poison u) = cond (eqb u v) 1 0
+raises v (host_call.Block u) = cond (eqb u v) 1 0
 raises v _ = 0
 
-abbrev pub withdraws : ℕ → Deed → ℕ
-withdraws v (deed.Unpoison u) = cond (eqb u v) 1 0
-withdraws v (deed.Unblock u) = cond (eqb u v) 1 0
+abbrev pub withdraws : ℕ → HostCall → ℕ
+withdraws v (host_call.Unpoison u) = cond (eqb u v) 1 0
+withdraws v (host_call.Unblock u) = cond (eqb u v) 1 0
 withdraws v _ = 0
 
--- the deed is built, and on an URB that is there
-abbrev pub IsThere : Scene → Deed → Type 0
-IsThere s (deed.Submit u) = u < urb_count s
-IsThere s (deed.Unlink u) = u < urb_count s
-IsThere s (deed.Kill u) = u < urb_count s
-IsThere s (deed.Poison u) = u < urb_count s
-IsThere s (deed.Unpoison u) = u < urb_count s
-IsThere s (deed.Block u) = u < urb_count s
-IsThere s (deed.Unblock u) = u < urb_count s
-IsThere s deed.Serve = Unit {0}
-IsThere s deed.Down = Unit {0}
-IsThere s deed.Up = Unit {0}
-IsThere s deed.Absent = Unit {0}
-IsThere s deed.Other = ⊥
+-- the host_call is built, and on an URB that is there
+abbrev pub IsThere : Scene → HostCall → Type 0
+IsThere s (host_call.Submit u) = u < urb_count s
+IsThere s (host_call.Unlink u) = u < urb_count s
+IsThere s (host_call.Kill u) = u < urb_count s
+IsThere s (host_call.Poison u) = u < urb_count s
+IsThere s (host_call.Unpoison u) = u < urb_count s
+IsThere s (host_call.Block u) = u < urb_count s
+IsThere s (host_call.Unblock u) = u < urb_count s
+IsThere s host_call.Serve = Unit {0}
+IsThere s host_call.Down = Unit {0}
+IsThere s host_call.Up = Unit {0}
+IsThere s host_call.Absent = Unit {0}
+IsThere s host_call.Other = ⊥
 
--- the deed takes the host down or up
-abbrev pub is_hubs : Deed → Bool
-is_hubs deed.Down = true
-is_hubs deed.Up = true
+-- the host_call takes the host down or up
+abbrev pub is_hubs : HostCall → Bool
+is_hubs host_call.Down = true
+is_hubs host_call.Up = true
 is_hubs _ = false
 
 -- the URB that a target names, if there is one
@@ -68,7 +68,7 @@ up_by code = cond (eqb code 4) 1 (cond (eqb code 6) 1 0)
 abbrev down_by : ℕ → ℕ
 down_by code = cond (eqb code 5) 1 (cond (eqb code 7) 1 0)
 
-record IsKnown (s : Scene) (code : ℕ) (o : Option ℕ) (d : Deed) : Type 0 where
+record IsKnown (s : Scene) (code : ℕ) (o : Option ℕ) (d : HostCall) : Type 0 where
   pub there : IsThere s d
   pub raised : (v : ℕ) → cond (is_urb v o) (up_by code) 0 ≡ raises v d
   pub withdrawn : (v : ℕ) → cond (is_urb v o) (down_by code) 0 ≡ withdraws v d
@@ -88,8 +88,8 @@ same true = refl
 same false = refl
 
 -- a call on an URB that is there, and on one that no driver has
-known_urb : (s : Scene) (code u : ℕ) → 2 ≤ code → code ≤ 7 → u < urb_count s → IsKnown s code (Some u) (deed_on code u)
-known_urb s code u l m near = by_code (λ k. IsKnown s k (Some u) (deed_on k u))
+known_urb : (s : Scene) (code u : ℕ) → 2 ≤ code → code ≤ 7 → u < urb_count s → IsKnown s code (Some u) (host_call_on code u)
+known_urb s code u l m near = by_code (λ k. IsKnown s k (Some u) (host_call_on k u))
     record { there = near; raised = λ v. same (eqb u v); withdrawn = λ v. same (eqb u v); hubs = refl }
     record { there = near; raised = λ v. same (eqb u v); withdrawn = λ v. same (eqb u v); hubs = refl }
     record { there = near; raised = λ v. refl; withdrawn = λ v. same (eqb u v); hubs = refl }
@@ -98,8 +98,8 @@ known_urb s code u l m near = by_code (λ k. IsKnown s k (Some u) (deed_on k u))
     record { there = near; raised = λ v. same (eqb u v); withdrawn = λ v. refl; hubs = refl }
     code l m
 
-known_absent : (s : Scene) (code : ℕ) → 2 ≤ code → code ≤ 7 → IsKnown s code None deed.Absent
-known_absent s code l m = by_code (λ k. IsKnown s k None deed.Absent)
+known_absent : (s : Scene) (code : ℕ) → 2 ≤ code → code ≤ 7 → IsKnown s code None host_call.Absent
+known_absent s code l m = by_code (λ k. IsKnown s k None host_call.Absent)
     record { there = tt; raised = λ v. refl; withdrawn = λ v. refl; hubs = refl }
     record { there = tt; raised = λ v. refl; withdrawn = λ v. refl; hubs = refl }
     record { there = tt; raised = λ v. refl; withdrawn = λ v. refl; hubs = refl }
@@ -109,21 +109,21 @@ known_absent s code l m = by_code (λ k. IsKnown s k None deed.Absent)
     code l m
 
 module _ (s : Scene) (good : IsWellFormed s) where
-  known_own : (code u : ℕ) → 1 ≤ code → code ≤ 7 → u < length s.urbs → IsKnown s code (Some u) (deed_on code u)
+  known_own : (code u : ℕ) → 1 ≤ code → code ≤ 7 → u < length s.urbs → IsKnown s code (Some u) (host_call_on code u)
   known_own code u l m near = dite (ℕ_discrete 1 code)
-      (λ is. subst (λ k. IsKnown s k (Some u) (deed_on k u)) is record { there = (let own = facts.own_urbs s good in omega arith); raised = λ v. same (eqb u v); withdrawn = λ v. same (eqb u v); hubs = refl })
+      (λ is. subst (λ k. IsKnown s k (Some u) (host_call_on k u)) is record { there = (let own = facts.own_urbs s good in omega arith); raised = λ v. same (eqb u v); withdrawn = λ v. same (eqb u v); hubs = refl })
       (λ off. known_urb s code u (omega arith) m (let own = facts.own_urbs s good in omega arith))
 
-  known_at : (code : ℕ) (t : Target) → IsBuilt s code t → IsKnown s code (named s t) (deed_by s code t)
+  known_at : (code : ℕ) (t : Target) → IsBuilt s code t → IsKnown s code (named s t) (host_call_by s code t)
   known_at code target.Nothing is = ⊎_elim
-      (λ e. subst (λ k. IsKnown s k None (deed_by s k target.Nothing)) (sym e) record { there = tt; raised = λ v. refl; withdrawn = λ v. refl; hubs = refl })
+      (λ e. subst (λ k. IsKnown s k None (host_call_by s k target.Nothing)) (sym e) record { there = tt; raised = λ v. refl; withdrawn = λ v. refl; hubs = refl })
       (⊎_elim
-      (λ e. subst (λ k. IsKnown s k None (deed_by s k target.Nothing)) (sym e) record { there = tt; raised = λ v. refl; withdrawn = λ v. refl; hubs = refl })
-      (λ e. subst (λ k. IsKnown s k None (deed_by s k target.Nothing)) (sym e) record { there = tt; raised = λ v. refl; withdrawn = λ v. refl; hubs = refl })) is
+      (λ e. subst (λ k. IsKnown s k None (host_call_by s k target.Nothing)) (sym e) record { there = tt; raised = λ v. refl; withdrawn = λ v. refl; hubs = refl })
+      (λ e. subst (λ k. IsKnown s k None (host_call_by s k target.Nothing)) (sym e) record { there = tt; raised = λ v. refl; withdrawn = λ v. refl; hubs = refl })) is
   known_at code (target.Urb u) is = known_own code u is.0 is.1 is.2
   known_at code (target.Role d i r) is = go (role_urb s d i r) refl
     where
-      go : (o : Option ℕ) → role_urb s d i r ≡ o → IsKnown s code o (deed_on_any code o)
+      go : (o : Option ℕ) → role_urb s d i r ≡ o → IsKnown s code o (host_call_on_any code o)
       go None e = known_absent s code is.0 is.1
       go (Some u) e = known_urb s code u is.0 is.1 (facts.role_near s good d i u r e).1
   known_at code (target.Interface d i) is = go (called_urb s code d i) refl
@@ -132,18 +132,18 @@ module _ (s : Scene) (good : IsWellFormed s) where
       no_hub = let low = is.0 in
           ap (λ b. cond b true (cond (eqb code 22) true false)) (ne_eqb code 21 (λ e. absurd (omega arith))) ∙ ap (λ b. cond b true false) (ne_eqb code 22 (λ e. absurd (omega arith)))
 
-      go : (o : Option ℕ) → called_urb s code d i ≡ o → IsKnown s code None (deed_called o)
+      go : (o : Option ℕ) → called_urb s code d i ≡ o → IsKnown s code None (host_call_called o)
       go None e = record { there = tt; raised = λ v. refl; withdrawn = λ v. refl; hubs = no_hub }
       go (Some u) e = record { there = called_near s good code d i u e; raised = λ v. refl; withdrawn = λ v. refl; hubs = no_hub }
   known_at code (target.Anchor a) is = absurd is
   known_at code (target.Device d) is = absurd is
 
   module _ (c : Call) (is : IsCall s c) where
-    pub deed_there : IsThere s (deed_of s c)
-    deed_there = (known_at c.code c.target is.built).there
+    pub host_call_there : IsThere s (host_call_of s c)
+    host_call_there = (known_at c.code c.target is.built).there
 
-    pub deed_hubs : is_hub_call c.code ≡ is_hubs (deed_of s c)
-    deed_hubs = (known_at c.code c.target is.built).hubs
+    pub host_call_hubs : is_hub_call c.code ≡ is_hubs (host_call_of s c)
+    host_call_hubs = (known_at c.code c.target is.built).hubs
 
   -- roles have numbers of their own
   same_role : (r q : Role) → role_number r ≡ role_number q → r ≡ q
@@ -199,23 +199,23 @@ module _ (s : Scene) (good : IsWellFormed s) where
   same_urb k m v (target.Role d i r) (target.Anchor b) is of at = absurd of
   same_urb k m v (target.Role d i r) (target.Device b) is of at = absurd of
 
-  -- what the scene counts of the rejects on an URB, and what its deeds do there
+  -- what the scene counts of the rejects on an URB, and what its host_calls do there
   module _ (t : Call) (is : IsCall s t) (v : ℕ) (names : named s t.target ≡ Some v) where
-    count_raised : (c : Call) → IsCall s c → raised t.target c ≡ raises v (deed_of s c)
+    count_raised : (c : Call) → IsCall s c → raised t.target c ≡ raises v (host_call_of s c)
     count_raised c of = ap (λ b. cond b (up_by c.code) 0) (same_urb t.code c.code v t.target c.target is.built of.built names) ∙ (known_at c.code c.target of.built).raised v
 
-    count_withdrawn : (c : Call) → IsCall s c → withdrawn t.target c ≡ withdraws v (deed_of s c)
+    count_withdrawn : (c : Call) → IsCall s c → withdrawn t.target c ≡ withdraws v (host_call_of s c)
     count_withdrawn c of = ap (λ b. cond b (down_by c.code) 0) (same_urb t.code c.code v t.target c.target is.built of.built names) ∙ (known_at c.code c.target of.built).withdrawn v
 
-    pub sum_raised : (calls : List Call) → All (IsCall s) calls → sum_by (raised t.target) calls ≡ sum_by (λ c. raises v (deed_of s c)) calls
+    pub sum_raised : (calls : List Call) → All (IsCall s) calls → sum_by (raised t.target) calls ≡ sum_by (λ c. raises v (host_call_of s c)) calls
     sum_raised [] all = refl
     sum_raised (c ∷ calls) all = sum_by-cons (raised t.target) c calls
-        ∙ ((λ x. count_raised c (All-head (IsCall s) c calls all) x + sum_raised calls (All-tail (IsCall s) c calls all) x) ∙ sym (sum_by-cons (λ c. raises v (deed_of s c)) c calls))
+        ∙ ((λ x. count_raised c (All-head (IsCall s) c calls all) x + sum_raised calls (All-tail (IsCall s) c calls all) x) ∙ sym (sum_by-cons (λ c. raises v (host_call_of s c)) c calls))
 
-    pub sum_withdrawn : (calls : List Call) → All (IsCall s) calls → sum_by (withdrawn t.target) calls ≡ sum_by (λ c. withdraws v (deed_of s c)) calls
+    pub sum_withdrawn : (calls : List Call) → All (IsCall s) calls → sum_by (withdrawn t.target) calls ≡ sum_by (λ c. withdraws v (host_call_of s c)) calls
     sum_withdrawn [] all = refl
     sum_withdrawn (c ∷ calls) all = sum_by-cons (withdrawn t.target) c calls
-        ∙ ((λ x. count_withdrawn c (All-head (IsCall s) c calls all) x + sum_withdrawn calls (All-tail (IsCall s) c calls all) x) ∙ sym (sum_by-cons (λ c. withdraws v (deed_of s c)) c calls))
+        ∙ ((λ x. count_withdrawn c (All-head (IsCall s) c calls all) x + sum_withdrawn calls (All-tail (IsCall s) c calls all) x) ∙ sym (sum_by-cons (λ c. withdraws v (host_call_of s c)) c calls))
 
   -- a call that withdraws a reject names its URB
   named_by : (v : ℕ) (o : Option ℕ) → is_urb v o ≡ true → o ≡ Some v
@@ -226,24 +226,24 @@ module _ (s : Scene) (good : IsWellFormed s) where
   is_one true n e = refl
   is_one false n e = absurd (omega arith)
 
-  pub withdraws_named : (c : Call) → IsCall s c → (v : ℕ) → withdraws v (deed_of s c) ≡ 1 → named s c.target ≡ Some v
+  pub withdraws_named : (c : Call) → IsCall s c → (v : ℕ) → withdraws v (host_call_of s c) ≡ 1 → named s c.target ≡ Some v
   withdraws_named c is v e = named_by v (named s c.target) (is_one (is_urb v (named s c.target)) (down_by c.code) ((known_at c.code c.target is.built).withdrawn v ∙ e))
 
-  pub withdraws_own : (c : Call) (is : IsCall s c) (v : ℕ) → withdraws v (deed_of s c) ≡ 1 → withdrawn c.target c ≡ 1
+  pub withdraws_own : (c : Call) (is : IsCall s c) (v : ℕ) → withdraws v (host_call_of s c) ≡ 1 → withdrawn c.target c ≡ 1
   withdraws_own c is v e = count_withdrawn c is v (withdraws_named c is v e) c is ∙ e
 
   -- among some calls none raises a reject on URB v, or one names it
-  pub none_or_named : (v : ℕ) (calls : List Call) → All (IsCall s) calls → (sum_by (λ c. raises v (deed_of s c)) calls ≡ 0) ⊎ ((c : Call) × (is : IsCall s c) × (named s c.target ≡ Some v))
+  pub none_or_named : (v : ℕ) (calls : List Call) → All (IsCall s) calls → (sum_by (λ c. raises v (host_call_of s c)) calls ≡ 0) ⊎ ((c : Call) × (is : IsCall s c) × (named s c.target ≡ Some v))
   none_or_named v [] all = inl refl
-  none_or_named v (c ∷ calls) all = subst (λ n. (n ≡ 0) ⊎ ((c : Call) × (is : IsCall s c) × (named s c.target ≡ Some v))) (sym (sum_by-cons (λ c. raises v (deed_of s c)) c calls))
+  none_or_named v (c ∷ calls) all = subst (λ n. (n ≡ 0) ⊎ ((c : Call) × (is : IsCall s c) × (named s c.target ≡ Some v))) (sym (sum_by-cons (λ c. raises v (host_call_of s c)) c calls))
       (go (is_urb v (named s c.target)) refl (none_or_named v calls (All-tail (IsCall s) c calls all)))
     where
       first : IsCall s c
       first = All-head (IsCall s) c calls all
 
-      go : (b : Bool) → is_urb v (named s c.target) ≡ b → (sum_by (λ c. raises v (deed_of s c)) calls ≡ 0) ⊎ ((c : Call) × (is : IsCall s c) × (named s c.target ≡ Some v))
-          → (raises v (deed_of s c) + sum_by (λ c. raises v (deed_of s c)) calls ≡ 0) ⊎ ((c : Call) × (is : IsCall s c) × (named s c.target ≡ Some v))
+      go : (b : Bool) → is_urb v (named s c.target) ≡ b → (sum_by (λ c. raises v (host_call_of s c)) calls ≡ 0) ⊎ ((c : Call) × (is : IsCall s c) × (named s c.target ≡ Some v))
+          → (raises v (host_call_of s c) + sum_by (λ c. raises v (host_call_of s c)) calls ≡ 0) ⊎ ((c : Call) × (is : IsCall s c) × (named s c.target ≡ Some v))
       go true e rest = inr (c, first, named_by v (named s c.target) e)
       go false e rest = ⊎_elim
-          (λ (none : sum_by (λ c. raises v (deed_of s c)) calls ≡ 0). let zero : raises v (deed_of s c) ≡ 0 = sym ((known_at c.code c.target first.built).raised v) ∙ ap (λ b. cond b (up_by c.code) 0) e in inl (omega arith))
+          (λ (none : sum_by (λ c. raises v (host_call_of s c)) calls ≡ 0). let zero : raises v (host_call_of s c) ≡ 0 = sym ((known_at c.code c.target first.built).raised v) ∙ ap (λ b. cond b (up_by c.code) 0) e in inl (omega arith))
           (λ (some : (c : Call) × (is : IsCall s c) × (named s c.target ≡ Some v)). inr some) rest

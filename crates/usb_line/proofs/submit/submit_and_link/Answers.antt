@@ -12,7 +12,7 @@ use Rattle.usb_line.specs.Prepared.{machine_of}
 use Rattle.usb_line.specs.Steps.{told_code}
 use Rattle.usb_line.proofs.MayFollow.{submit_follows, link_follows, submit_owes}
 use Rattle.usb_line.proofs.Stepping.{enters, two_more, is_zero_code}
-use Rattle.usb_line.proofs.submit.ask.Goals as goal
+use Rattle.usb_line.proofs.submit.submit_and_link.Goals as goal
 
 pub returns-in-Fault-clause-asked : goal.returns-in-Fault-clause-asked
 returns-in-Fault-clause-asked c = λ s h t stands may number.
