@@ -8,7 +8,7 @@ use Rattle.usb_scene.specs.declared.scene.Scene.{Scene}
 use Rattle.usb_scene.specs.declared.cause.Cause.{Cause}
 use Rattle.usb_scene.specs.declared.cause.Cause.TheVariants as cause
 
--- behind good lines the reading goes on
+-- after good lines the reading goes on
 on_good : (start : Reading) (n m : ℕ) (before rest : List (List ℕ)) (reading : Reading) → AreGood start n before reading → m ≡ n + length before
     → lines_read start n (before ++ rest) ≡ lines_read reading m rest
 on_good start n m [] rest reading h e =

@@ -79,7 +79,7 @@ empty_good = record {
 empty_totals : HasTotals empty_scene
 empty_totals = record { replies = lit≤ tt; calls = lit≤ tt }
 
--- the totals behind a line
+-- the totals after a line
 totals_with : (so_far : SoFar) (n : ℕ) (said : Statement) → IsSound so_far.scene → HasTotals so_far.scene → IsPlaced so_far said → HasTotals (scene_with so_far.scene n said)
 totals_with so_far n said sound totals p =
     let s = so_far.scene in
