@@ -146,64 +146,64 @@ module _ (u : ℕ) (status : Code) where
 
 -- what a handler does, which found this history
 module _ (s : Scene) (h : List Entry) (u : ℕ) (back again : Transfer) (asking : Option Question) where
-  abbrev call_record : Outcome → List Entry
-  call_record o = handled_by s u back again asking o
+  abbrev handling : Outcome → List Entry
+  handling o = handled_by s u back again asking o
 
   abbrev rest : Entry
   rest = rest_entry u back
 
-  pub handled_pass : (o : Outcome) → AreOf SERVER (call_record o)
+  pub handled_pass : (o : Outcome) → AreOf SERVER (handling o)
   handled_pass outcome.Rest = (refl, tt)
   handled_pass (outcome.Again Zero) = (refl, (refl, tt))
   handled_pass (outcome.Again (Fault e)) = (refl, (refl, tt))
   handled_pass (outcome.Asked c) = (refl, asked_pass s asking c)
 
-  split_asked : (c : Code) → h ++ call_record (outcome.Asked c) ≡ (h ++ rest ∷ []) ++ asked_entries s asking c
+  split_asked : (c : Code) → h ++ handling (outcome.Asked c) ≡ (h ++ rest ∷ []) ++ asked_entries s asking c
   split_asked c = sym (append_assoc h (rest ∷ []) (asked_entries s asking c))
 
-  pub handled_own : IsApart u asking → again.number ≡ back.number → (o : Outcome) → state_of (h ++ call_record o) u ≡ handled_state o back.number (state_of h u)
+  pub handled_own : IsApart u asking → again.number ≡ back.number → (o : Outcome) → state_of (h ++ handling o) u ≡ handled_state o back.number (state_of h u)
   handled_own apart e outcome.Rest = own_state u h (rest ∷ []) (tt, refl, tt)
-  handled_own apart e (outcome.Again Zero) = own_state u h (call_record (outcome.Again Zero)) (tt, refl, (tt, refl, tt))
-  handled_own apart e (outcome.Again (Fault c)) = own_state u h (call_record (outcome.Again (Fault c))) (tt, refl, (tt, refl, tt)) ∙ ap (λ (n : ℕ). record (state_of h u) { rest = Some n }) e
+  handled_own apart e (outcome.Again Zero) = own_state u h (handling (outcome.Again Zero)) (tt, refl, (tt, refl, tt))
+  handled_own apart e (outcome.Again (Fault c)) = own_state u h (handling (outcome.Again (Fault c))) (tt, refl, (tt, refl, tt)) ∙ ap (λ (n : ℕ). record (state_of h u) { rest = Some n }) e
   handled_own apart e (outcome.Asked c) = ap (λ (l : List Entry). state_of l u) (split_asked c) ∙ (asked_other s (h ++ rest ∷ []) asking c u (narrow asking apart c) ∙ own_state u h (rest ∷ []) (tt, refl, tt))
     where
       narrow : (asking : Option Question) → IsApart u asking → (c : Code) → IsApart u (posed_by asking (outcome.Asked c))
       narrow asking apart Zero = apart
       narrow asking apart (Fault e) = tt
 
-  pub handled_other : (w : ℕ) → w ≢ u → (o : Outcome) → IsApart w (posed_by asking o) → state_of (h ++ call_record o) w ≡ state_of h w
+  pub handled_other : (w : ℕ) → w ≢ u → (o : Outcome) → IsApart w (posed_by asking o) → state_of (h ++ handling o) w ≡ state_of h w
   handled_other w off outcome.Rest apart = other_state u h (rest ∷ []) (tt, refl, tt) w off
-  handled_other w off (outcome.Again Zero) apart = other_state u h (call_record (outcome.Again Zero)) (tt, refl, (tt, refl, tt)) w off
-  handled_other w off (outcome.Again (Fault c)) apart = other_state u h (call_record (outcome.Again (Fault c))) (tt, refl, (tt, refl, tt)) w off
+  handled_other w off (outcome.Again Zero) apart = other_state u h (handling (outcome.Again Zero)) (tt, refl, (tt, refl, tt)) w off
+  handled_other w off (outcome.Again (Fault c)) apart = other_state u h (handling (outcome.Again (Fault c))) (tt, refl, (tt, refl, tt)) w off
   handled_other w off (outcome.Asked c) apart = ap (λ (l : List Entry). state_of l w) (split_asked c)
       ∙ (asked_other s (h ++ rest ∷ []) asking c w apart ∙ other_state u h (rest ∷ []) (tt, refl, tt) w off)
 
-  pub handled_pending : (o : Outcome) (e : ℕ) → pending_of (machine_of s) (h ++ call_record o) e ≡ pending_of (machine_of s) h e
+  pub handled_pending : (o : Outcome) (e : ℕ) → pending_of (machine_of s) (h ++ handling o) e ≡ pending_of (machine_of s) h e
   handled_pending o e = go o
     where
       plainly : (xs : List Entry) → fold (λ us x. pending_after (machine_of s) e us x.event x.answer) (pending_of (machine_of s) h e) xs ≡ pending_of (machine_of s) h e
           → pending_of (machine_of s) (h ++ xs) e ≡ pending_of (machine_of s) h e
       plainly xs is = fold-append (λ us x. pending_after (machine_of s) e us x.event x.answer) [] h xs ∙ is
 
-      go : (o : Outcome) → pending_of (machine_of s) (h ++ call_record o) e ≡ pending_of (machine_of s) h e
-      go outcome.Rest = plainly (call_record outcome.Rest) refl
-      go (outcome.Again Zero) = plainly (call_record (outcome.Again Zero)) refl
-      go (outcome.Again (Fault c)) = plainly (call_record (outcome.Again (Fault c))) refl
+      go : (o : Outcome) → pending_of (machine_of s) (h ++ handling o) e ≡ pending_of (machine_of s) h e
+      go outcome.Rest = plainly (handling outcome.Rest) refl
+      go (outcome.Again Zero) = plainly (handling (outcome.Again Zero)) refl
+      go (outcome.Again (Fault c)) = plainly (handling (outcome.Again (Fault c))) refl
       go (outcome.Asked c) = ap (λ (l : List Entry). pending_of (machine_of s) l e) (split_asked c) ∙ (asked_pending s (h ++ rest ∷ []) asking c e ∙ plainly (rest ∷ []) refl)
 
-  pub handled_sent : (o : Outcome) (w : ℕ) → IsApart w (posed_by asking o) → sent_of (h ++ call_record o) w ≡ cond (eqb u w && resubmits o) (Some again) (sent_of h w)
+  pub handled_sent : (o : Outcome) (w : ℕ) → IsApart w (posed_by asking o) → sent_of (h ++ handling o) w ≡ cond (eqb u w && resubmits o) (Some again) (sent_of h w)
   handled_sent o w apart = go o apart (eqb u w) refl
     where
       plainly : (xs : List Entry) (t : Option Transfer) → fold (λ (t : Option Transfer) x. sent_after w t x.event x.answer x.carried) (sent_of h w) xs ≡ t → sent_of (h ++ xs) w ≡ t
       plainly xs t is = fold-append (λ (t : Option Transfer) x. sent_after w t x.event x.answer x.carried) None h xs ∙ is
 
-      go : (o : Outcome) → IsApart w (posed_by asking o) → (b : Bool) → eqb u w ≡ b → sent_of (h ++ call_record o) w ≡ cond (b && resubmits o) (Some again) (sent_of h w)
-      go outcome.Rest apart true is = plainly (call_record outcome.Rest) _ refl
-      go outcome.Rest apart false is = plainly (call_record outcome.Rest) _ refl
-      go (outcome.Again Zero) apart true is = plainly (call_record (outcome.Again Zero)) _ (ap (λ b. cond b (Some again) (sent_of h w)) is)
-      go (outcome.Again Zero) apart false is = plainly (call_record (outcome.Again Zero)) _ (ap (λ b. cond b (Some again) (sent_of h w)) is)
-      go (outcome.Again (Fault c)) apart true is = plainly (call_record (outcome.Again (Fault c))) _ (ap (λ b. cond b (sent_of h w) (sent_of h w)) is)
-      go (outcome.Again (Fault c)) apart false is = plainly (call_record (outcome.Again (Fault c))) _ (ap (λ b. cond b (sent_of h w) (sent_of h w)) is)
+      go : (o : Outcome) → IsApart w (posed_by asking o) → (b : Bool) → eqb u w ≡ b → sent_of (h ++ handling o) w ≡ cond (b && resubmits o) (Some again) (sent_of h w)
+      go outcome.Rest apart true is = plainly (handling outcome.Rest) _ refl
+      go outcome.Rest apart false is = plainly (handling outcome.Rest) _ refl
+      go (outcome.Again Zero) apart true is = plainly (handling (outcome.Again Zero)) _ (ap (λ b. cond b (Some again) (sent_of h w)) is)
+      go (outcome.Again Zero) apart false is = plainly (handling (outcome.Again Zero)) _ (ap (λ b. cond b (Some again) (sent_of h w)) is)
+      go (outcome.Again (Fault c)) apart true is = plainly (handling (outcome.Again (Fault c))) _ (ap (λ b. cond b (sent_of h w) (sent_of h w)) is)
+      go (outcome.Again (Fault c)) apart false is = plainly (handling (outcome.Again (Fault c))) _ (ap (λ b. cond b (sent_of h w) (sent_of h w)) is)
       go (outcome.Asked c) apart b is = ap (λ (l : List Entry). sent_of l w) (split_asked c) ∙ (asked_sent s (h ++ rest ∷ []) asking c w apart ∙ (plainly (rest ∷ []) (sent_of h w) refl ∙ off b))
         where
           off : (b : Bool) → sent_of h w ≡ cond (b && false) (Some again) (sent_of h w)
