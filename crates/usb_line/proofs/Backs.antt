@@ -32,7 +32,7 @@ use Rattle.usb_line.specs.declared.run.Received.{Received}
 use Rattle.usb_line.specs.declared.run.LineRun.{LineRun}
 use Rattle.usb_prepare.specs.Ends.{shape_at}
 use Rattle.usb_prepare.specs.Layout.{home}
-use Rattle.usb_line.specs.Prepared.{machine_of, owner_of, again_of, Question, question_at}
+use Rattle.usb_line.specs.Prepared.{machine_of, owner_of, again_of, DriverQuestion, question_at}
 use Rattle.usb_line.specs.Run.{Giveback, moved_in, resent, action_by, is_accepted, times_back, rounds_at, is_first, asked_in, asked_of}
 use Rattle.usb_line.specs.Line.{Progress, replies_had, given_back}
 use Rattle.usb_line.specs.GivebackRow.{giveback_row, acked_at, sent_bytes, IsReceived}
@@ -169,7 +169,7 @@ module _ (s : Scene) (f : Progress) (r : Giveback) where
   }
 
   -- one that a question was asked with has the question's transfer
-  module _ (legal : IsLegal (machine_of s) h) (a : Question) (put : IsPut s h r a) where
+  module _ (legal : IsLegal (machine_of s) h) (a : DriverQuestion) (put : IsPut s h r a) where
     not_first : (e : ℕ) → home s a.urb ≡ e → (us : List ℕ) → pending_of (machine_of s) h e ≡ us → is_first a.urb (cond (eqb (home s r.urb) e) (without r.urb us) us) ≡ false
     not_first e here us is = go (is_first a.urb (cond (eqb (home s r.urb) e) (without r.urb us) us)) refl
       where
@@ -215,7 +215,7 @@ module _ (s : Scene) (f : Progress) (r : Giveback) where
   own_unposed : CanPoseAny s r.urb (question_at s r.urb) → IsApart r.urb (posed s r)
   own_unposed pose = narrow (is_accepted r.outcome) (question_at s r.urb) (apart_any s r.urb (question_at s r.urb) pose)
     where
-      narrow : (b : Bool) (asking : Option Question) → IsApart r.urb asking → IsApart r.urb (cond b asking None)
+      narrow : (b : Bool) (asking : Option DriverQuestion) → IsApart r.urb asking → IsApart r.urb (cond b asking None)
       narrow true asking apart = apart
       narrow false asking apart = tt
 

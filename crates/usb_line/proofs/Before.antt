@@ -19,28 +19,28 @@ use Rattle.usb_prepare.specs.Ends.{shape_at}
 use Rattle.usb_prepare.specs.Layout.{home}
 use Rattle.usb_prepare.proofs.Facts as facts
 use Rattle.usb_line.specs.declared.owner.Owner.{Owner}
-use Rattle.usb_line.specs.Prepared.{owner_of, origin_of, Question, question_with, owner_question, question_at}
+use Rattle.usb_line.specs.Prepared.{owner_of, origin_of, DriverQuestion, question_with, owner_question, question_at}
 use Rattle.usb_line.specs.Run.{given_entries, is_accepted, action_by, may_again, question_out, asks_or_rests, acts}
 use Rattle.usb_line.specs.Line.{Progress, outcome_by, round_of}
 use Rattle.usb_line.proofs.Givebacks.{posed_by, posed}
 use Rattle.usb_line.proofs.Owners.{owner_bound, owner_ctl}
 
 -- the URB that a question is asked with
-asked_with : (urb : Option UrbId) (t : Option Transfer) (a : Question) → question_with urb t ≡ Some a → (v : UrbId) × (urb ≡ Some v) × (v.0 ≡ a.urb)
+asked_with : (urb : Option UrbId) (t : Option Transfer) (a : DriverQuestion) → question_with urb t ≡ Some a → (v : UrbId) × (urb ≡ Some v) × (v.0 ≡ a.urb)
 asked_with None t a is = cc
 asked_with (Some v) None a is = cc
-asked_with (Some v) (Some t) a is = let same : record { urb = v.0; transfer = t } ≡ a = cc in (v, refl, ap (λ (x : Question). x.urb) same)
+asked_with (Some v) (Some t) a is = let same : record { urb = v.0; transfer = t } ≡ a = cc in (v, refl, ap (λ (x : DriverQuestion). x.urb) same)
 
-not_none : (b : Bool) (asking : Option Question) (a : Question) → cond b None asking ≡ Some a → asking ≡ Some a
+not_none : (b : Bool) (asking : Option DriverQuestion) (a : DriverQuestion) → cond b None asking ≡ Some a → asking ≡ Some a
 not_none true asking a is = cc
 not_none false asking a is = is
 
-taken : (b : Bool) (asking : Option Question) (a : Question) → cond b asking None ≡ Some a → asking ≡ Some a
+taken : (b : Bool) (asking : Option DriverQuestion) (a : DriverQuestion) → cond b asking None ≡ Some a → asking ≡ Some a
 taken true asking a is = is
 taken false asking a is = cc
 
 -- the URB that a driver writes with has a lower number than the one that its question is asked with
-pub asks_before : (s : Scene) → IsWellFormed s → (u : ℕ) (a : Question) → question_at s u ≡ Some a → (o : Owner) → owner_of s u ≡ Some o → o.role ≡ Write → u < a.urb
+pub asks_before : (s : Scene) → IsWellFormed s → (u : ℕ) (a : DriverQuestion) → question_at s u ≡ Some a → (o : Owner) → owner_of s u ≡ Some o → o.role ≡ Write → u < a.urb
 unfolding question_at
 asks_before s good u a is o owns writes =
     let asks : question_with o.ctl (question_by o.driver (origin_of s o.place)) ≡ Some a
@@ -52,13 +52,13 @@ asks_before s good u a is o owns writes =
     subst (λ n. u < n) with.2 (facts.bound_rises s good o.place b.0 (record { 0 = u }) with.0 b.1 writer asker)
 
 -- a handler that asked did so for its driver
-asked_by : (s : Scene) (h : List Entry) (u : ℕ) (asking : Option Question) (act : Action) (a : Question) → posed_by asking (outcome_by s h u asking act) ≡ Some a → (act ≡ action.Ask) × (asking ≡ Some a)
+asked_by : (s : Scene) (h : List Entry) (u : ℕ) (asking : Option DriverQuestion) (act : Action) (a : DriverQuestion) → posed_by asking (outcome_by s h u asking act) ≡ Some a → (act ≡ action.Ask) × (asking ≡ Some a)
 asked_by s h u asking (action.Again from len) a is = cc
 asked_by s h u asking action.Rest a is = cc
 asked_by s h u None action.Ask a is = cc
 asked_by s h u (Some b) action.Ask a is = (refl, taken (is_accepted (outcome_by s h u (Some b) action.Ask)) (Some b) a is)
 
-asks_for : (asking : Option Question) (out : Bool) (act : Action) → asks_or_rests asking out act ≡ action.Ask → act ≡ action.Ask
+asks_for : (asking : Option DriverQuestion) (out : Bool) (act : Action) → asks_or_rests asking out act ≡ action.Ask → act ≡ action.Ask
 asks_for asking out action.Ask is = refl
 asks_for (Some b) true action.Rest is = cc
 asks_for (Some b) false action.Rest is = cc
@@ -76,7 +76,7 @@ writer_of None false status t is = cc
 writer_of (Some o) may status t is = (o, refl, (asks_by o.driver o.role status t is).1)
 
 -- so an URB that comes back has a lower number than the one of the question that it asked
-pub posed_before : (s : Scene) → IsWellFormed s → (f : Progress) (u : ℕ) (status : Code) (finished : Bool) (t : Transfer) (replies : List Reply) (a : Question)
+pub posed_before : (s : Scene) → IsWellFormed s → (f : Progress) (u : ℕ) (status : Code) (finished : Bool) (t : Transfer) (replies : List Reply) (a : DriverQuestion)
     → posed s (round_of s f u status finished t replies) ≡ Some a → u < a.urb
 posed_before s good f u status finished t replies a is =
     let back : Transfer = moved (shape_at s (home s u)) t replies in

@@ -36,7 +36,7 @@ use Rattle.usb_line.specs.declared.made.HostCall.{HostCall}
 use Rattle.usb_line.specs.declared.made.HostCall.TheVariants as host_call
 use Rattle.usb_line.specs.declared.made.CallAnswer.{CallAnswer}
 use Rattle.usb_line.specs.declared.made.CallAnswer.TheVariants as told
-use Rattle.usb_line.specs.Prepared.{owner_of, origin_of, Question, question_with, owner_question, question_at, reading, read_by, number_of, fresh, submit_fault, pass_of, host_call_of, main_pass}
+use Rattle.usb_line.specs.Prepared.{owner_of, origin_of, DriverQuestion, question_with, owner_question, question_at, reading, read_by, number_of, fresh, submit_fault, pass_of, host_call_of, main_pass}
 use Rattle.usb_line.specs.Run.{CallRecord, Giveback, IsRun, IsFramed, urbs_of, submit_of, killed_by, host_call_entries, call_entries, done_by, read_entries_by, read_entries, opening, kills_of, seen_quiet, closing}
 use Rattle.usb_line.proofs.Stills.{IsStill, AreStill, AreStill-append, flags_still, unflags_still, marks_still}
 
@@ -177,12 +177,12 @@ question_begins Keyboard o t is = cc
 question_begins Acm o t is = cc
 question_begins Printer o t is = let same : question_of o.number o.interface ≡ t = cc in sym (ap (λ (t : Transfer). t.from) same)
 
-with_begins : (c : Option UrbId) (q : Option Transfer) (a : Question) → ((t : Transfer) → q ≡ Some t → t.from ≡ 0) → question_with c q ≡ Some a → a.transfer.from ≡ 0
+with_begins : (c : Option UrbId) (q : Option Transfer) (a : DriverQuestion) → ((t : Transfer) → q ≡ Some t → t.from ≡ 0) → question_with c q ≡ Some a → a.transfer.from ≡ 0
 with_begins None q a begins is = cc
 with_begins (Some v) None a begins is = cc
-with_begins (Some v) (Some t) a begins is = let same : record { urb = v.0; transfer = t } ≡ a = cc in sym (ap (λ (a : Question). a.transfer.from) same) ∙ begins t refl
+with_begins (Some v) (Some t) a begins is = let same : record { urb = v.0; transfer = t } ≡ a = cc in sym (ap (λ (a : DriverQuestion). a.transfer.from) same) ∙ begins t refl
 
-pub asking_begins : (s : Scene) (v : ℕ) (a : Question) → question_at s v ≡ Some a → a.transfer.from ≡ 0
+pub asking_begins : (s : Scene) (v : ℕ) (a : DriverQuestion) → question_at s v ≡ Some a → a.transfer.from ≡ 0
 unfolding question_at
 asking_begins s v a is = go (owner_of s v) is
   where

@@ -26,7 +26,7 @@ use Rattle.usb_machine.proofs.Places.{placed}
 use Rattle.usb_scene.specs.declared.scene.Scene.{Scene}
 use Rattle.usb_line.specs.declared.made.Outcome.{Outcome}
 use Rattle.usb_line.specs.declared.made.Outcome.TheVariants as outcome
-use Rattle.usb_line.specs.Prepared.{machine_of, Question, question_at}
+use Rattle.usb_line.specs.Prepared.{machine_of, DriverQuestion, question_at}
 use Rattle.usb_line.specs.Back.{CanPoseAny}
 use Rattle.usb_line.specs.Run.{Giveback, moved_in, resent, rest_entry, asked_entries, handled_by, given_entries, giveback_entries}
 use Rattle.usb_line.specs.Line.{takes, takes_below}
@@ -148,7 +148,7 @@ module _ (s : Scene) (h : List Entry) where
             queued true t is = record { handlers = is.handlers; mark = refl }
             queued false t is = is
 
-            asked : (a : Question) (c : Code) → (u ≡ a.urb) ⊎ (u ≢ a.urb) → IsAtRest (state_of (resting s h r ++ submit_entries SERVER a.urb a.transfer c) u)
+            asked : (a : DriverQuestion) (c : Code) → (u ≡ a.urb) ⊎ (u ≢ a.urb) → IsAtRest (state_of (resting s h r ++ submit_entries SERVER a.urb a.transfer c) u)
             asked a c (inl same) = subst (λ v. IsAtRest (state_of (resting s h r ++ submit_entries SERVER a.urb a.transfer c) v)) (sym same)
                 (subst IsAtRest (sym (submit_state SERVER a.urb a.transfer (resting s h r) c)) (queued (is_zero c) (state_of (resting s h r) a.urb) (subst (λ v. IsAtRest (state_of (resting s h r) v)) same before)))
             asked a c (inr apart) = subst IsAtRest (sym (submit_other SERVER a.urb a.transfer (resting s h r) c u apart)) before

@@ -25,7 +25,7 @@ use Rattle.usb_scene.specs.WellFormed.{IsWellFormed}
 use Rattle.usb_prepare.specs.Below.{below}
 use Rattle.usb_prepare.specs.Ends.{ends_of}
 use Rattle.usb_prepare.specs.Layout.{home}
-use Rattle.usb_line.specs.Prepared.{machine_of, main_pass, Question}
+use Rattle.usb_line.specs.Prepared.{machine_of, main_pass, DriverQuestion}
 use Rattle.usb_line.specs.Run.{Giveback, kills_of, seen_quiet}
 use Rattle.usb_line.specs.Line.{Progress, adds, with_takes, round_of, given_back, replies_had, had_after, killing, Gives, unlinked, ended, woken, StaysLoud, begins, goes_on, WaitsFor, already, turns, Closes, none, one}
 use Rattle.usb_line.proofs.Entries.{AreOf, AllFollow}
@@ -87,7 +87,7 @@ module _ (s : Scene) (good : IsWellFormed s) (n : ℕ) where
       apart : IsApart v (posed s r)
       apart = go (posed s r) refl
         where
-          go : (o : Option Question) → posed s r ≡ o → IsApart v o
+          go : (o : Option DriverQuestion) → posed s r ≡ o → IsApart v o
           go None e = tt
           go (Some a) e = λ same. let before = posed_before s good f u status finished t replies a e in not_low (omega arith)
 

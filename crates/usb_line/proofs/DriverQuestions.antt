@@ -43,7 +43,7 @@ use Rattle.usb_line.specs.declared.giveback.PosedQuestion.{PosedQuestion}
 use Rattle.usb_line.specs.declared.run.UrbRow.{UrbRow}
 use Rattle.usb_line.specs.declared.run.EndRow.{EndRow}
 use Rattle.usb_line.specs.declared.run.LineRun.{LineRun}
-use Rattle.usb_line.specs.Prepared.{owner_of, origin_of, Question, question_with, owner_question, question_at}
+use Rattle.usb_line.specs.Prepared.{owner_of, origin_of, DriverQuestion, question_with, owner_question, question_at}
 use Rattle.usb_line.specs.Run.{Giveback, moved_in, action_by, is_accepted, out_after, is_out, question_out, asks_or_rests, done_in, done_at}
 use Rattle.usb_line.specs.Line.{submit_answer, outcome_by}
 use Rattle.usb_line.specs.Shows.{ShowsCores}
@@ -231,13 +231,13 @@ IsSeen s run urb = (row : UrbRow) × (end : EndRow) × (slice_get run.urbs.items
 
 module _ (s : Scene) (rounds : List Giveback) (r : Giveback) (h : List Entry) where
   -- what the handler does, by what its driver says
-  did_again : (asking : Option Question) (out : Bool) (from len : ℕ) → outcome_by s h r.urb asking (asks_or_rests asking out (action.Again from len)) ≡ outcome.Again (refusal (state_of h r.urb))
+  did_again : (asking : Option DriverQuestion) (out : Bool) (from len : ℕ) → outcome_by s h r.urb asking (asks_or_rests asking out (action.Again from len)) ≡ outcome.Again (refusal (state_of h r.urb))
   did_again None true from len = refl
   did_again None false from len = refl
   did_again (Some a) true from len = refl
   did_again (Some a) false from len = refl
 
-  did_rest : (asking : Option Question) (out : Bool) → outcome_by s h r.urb asking (asks_or_rests asking out action.Rest) ≡ outcome.Rest
+  did_rest : (asking : Option DriverQuestion) (out : Bool) → outcome_by s h r.urb asking (asks_or_rests asking out action.Rest) ≡ outcome.Rest
   did_rest None true = refl
   did_rest None false = refl
   did_rest (Some a) true = refl
@@ -247,7 +247,7 @@ module _ (s : Scene) (rounds : List Giveback) (r : Giveback) (h : List Entry) wh
   did_none true = refl
   did_none false = refl
 
-  did_out : (asking : Option Question) → outcome_by s h r.urb asking (asks_or_rests asking true action.Ask) ≡ outcome.Rest
+  did_out : (asking : Option DriverQuestion) → outcome_by s h r.urb asking (asks_or_rests asking true action.Ask) ≡ outcome.Rest
   did_out None = refl
   did_out (Some a) = refl
 
@@ -312,7 +312,7 @@ module _ (s : Scene) (rounds : List Giveback) (r : Giveback) (h : List Entry) wh
       unfolding question_at
       asking_so ctl t e f = ap (owner_question s) is ∙ (ap (λ b. cond b None (question_with o.ctl (question_by o.driver (origin_of s o.place)))) (ap is_ctl write) ∙ (λ i. question_with (e i) (f i)))
 
-      did_by : (asking : Option Question) → question_at s r.urb ≡ asking → (b : Bool) → out ≡ b → r.outcome ≡ outcome_by s h r.urb asking (asks_or_rests asking b action.Ask)
+      did_by : (asking : Option DriverQuestion) → question_at s r.urb ≡ asking → (b : Bool) → out ≡ b → r.outcome ≡ outcome_by s h r.urb asking (asks_or_rests asking b action.Ask)
       did_by asking e b f = did_as action.Ask asks ∙ (λ i. outcome_by s h r.urb (e i) (asks_or_rests (e i) (f i) action.Ask))
 
       -- its core has seen as much, and its question stands so
@@ -350,7 +350,7 @@ module _ (s : Scene) (rounds : List Giveback) (r : Giveback) (h : List Entry) wh
           rest = by_out out refl (given core after None at set gave)
 
       -- it gave this one
-      abbrev asked_with : UrbId → PosedQuestion → Question
+      abbrev asked_with : UrbId → PosedQuestion → DriverQuestion
       asked_with urb x = record { urb = urb.0; transfer = x.transfer }
 
       abbrev answer : UrbId → PosedQuestion → Code

@@ -26,7 +26,7 @@ use Rattle.usb_line.specs.declared.made.Outcome.{Outcome}
 use Rattle.usb_line.specs.declared.made.Outcome.TheVariants as outcome
 use Rattle.usb_prepare.specs.Ends.{shape_at}
 use Rattle.usb_prepare.specs.Layout.{home}
-use Rattle.usb_line.specs.Prepared.{machine_of, owner_of, Question, question_at}
+use Rattle.usb_line.specs.Prepared.{machine_of, owner_of, DriverQuestion, question_at}
 pub use Rattle.usb_line.specs.Back.{IsGated, IsSettled, CanPose, CanPoseAny, CanGive}
 use Rattle.usb_line.specs.Run.{Giveback, moved_in, resent, submit_of, rest_entry, asked_entries, is_accepted, handled_by, handler_entries, given_entries, giveback_entries}
 use Rattle.usb_line.proofs.Entries.{AreOf, AreOf-append, AreAbout, own_state, other_state, change, AllFollow, AllFollow-append}
@@ -46,18 +46,18 @@ handled_state (outcome.Again Zero) n t = record t { queued = true; mark = Clear 
 handled_state o n t = record t { rest = Some n }
 
 -- the question that a handler asked, where it was accepted
-abbrev pub posed_by : Option Question → Outcome → Option Question
+abbrev pub posed_by : Option DriverQuestion → Outcome → Option DriverQuestion
 posed_by asking o = cond (is_accepted o) asking None
 
-abbrev pub posed : Scene → Giveback → Option Question
+abbrev pub posed : Scene → Giveback → Option DriverQuestion
 posed s r = posed_by (question_at s r.urb) r.outcome
 
 -- the URB is not the one of a question
-abbrev pub IsApart : ℕ → Option Question → Type 0
+abbrev pub IsApart : ℕ → Option DriverQuestion → Type 0
 IsApart w None = Unit {0}
 IsApart w (Some a) = w ≢ a.urb
 
-pub apart_any : (s : Scene) (u : ℕ) (asking : Option Question) → CanPoseAny s u asking → IsApart u asking
+pub apart_any : (s : Scene) (u : ℕ) (asking : Option DriverQuestion) → CanPoseAny s u asking → IsApart u asking
 apart_any s u None can = tt
 apart_any s u (Some a) can = λ is. can.apart (sym is)
 
@@ -66,12 +66,12 @@ queue_of b t = cond b (record t { queued = true; mark = Clear }) t
 
 -- a question
 module _ (s : Scene) where
-  abbrev shape_of : Question → Option Errno
+  abbrev shape_of : DriverQuestion → Option Errno
   shape_of a = shape_fault (shape_at s (home s a.urb)) a.transfer
 
   -- what holds of no entries, and of a submit, holds of what is asked
-  pub asked_each : (P : List Entry → Type 0) (asking : Option Question) (c : Code) → P []
-      → ((a : Question) → asking ≡ Some a → shape_of a ≡ None → P (submit_entries SERVER a.urb a.transfer c)) → P (asked_entries s asking c)
+  pub asked_each : (P : List Entry → Type 0) (asking : Option DriverQuestion) (c : Code) → P []
+      → ((a : DriverQuestion) → asking ≡ Some a → shape_of a ≡ None → P (submit_entries SERVER a.urb a.transfer c)) → P (asked_entries s asking c)
   asked_each P None c nothing some = nothing
   asked_each P (Some a) c nothing some = go (shape_of a) refl
     where
@@ -79,19 +79,19 @@ module _ (s : Scene) where
       go None is = some a refl is
       go (Some e) is = nothing
 
-  pub asked_pass : (asking : Option Question) (c : Code) → AreOf SERVER (asked_entries s asking c)
+  pub asked_pass : (asking : Option DriverQuestion) (c : Code) → AreOf SERVER (asked_entries s asking c)
   asked_pass asking c = asked_each (AreOf SERVER) asking c tt (λ a is none. submit_pass SERVER a.urb a.transfer c)
 
-  module _ (h : List Entry) (asking : Option Question) (c : Code) where
+  module _ (h : List Entry) (asking : Option DriverQuestion) (c : Code) where
     -- no other URB's state changes
     pub asked_other : (w : ℕ) → IsApart w (posed_by asking (outcome.Asked c)) → state_of (h ++ asked_entries s asking c) w ≡ state_of h w
     asked_other w = asked_each (λ xs. IsApart w (posed_by asking (outcome.Asked c)) → state_of (h ++ xs) w ≡ state_of h w) asking c (λ apart. ap (λ l. state_of l w) (append-nil h)) some
       where
-        at : (a : Question) → w ≡ a.urb → (c : Code) → IsApart w (posed_by (Some a) (outcome.Asked c)) → state_of (h ++ submit_entries SERVER a.urb a.transfer c) w ≡ state_of h w
+        at : (a : DriverQuestion) → w ≡ a.urb → (c : Code) → IsApart w (posed_by (Some a) (outcome.Asked c)) → state_of (h ++ submit_entries SERVER a.urb a.transfer c) w ≡ state_of h w
         at a same Zero apart = absurd (apart same)
         at a same (Fault e) apart = ap (state_of (h ++ submit_entries SERVER a.urb a.transfer (Fault e))) same ∙ (submit_state SERVER a.urb a.transfer h (Fault e) ∙ ap (state_of h) (sym same))
 
-        some : (a : Question) → asking ≡ Some a → shape_of a ≡ None → IsApart w (posed_by asking (outcome.Asked c)) → state_of (h ++ submit_entries SERVER a.urb a.transfer c) w ≡ state_of h w
+        some : (a : DriverQuestion) → asking ≡ Some a → shape_of a ≡ None → IsApart w (posed_by asking (outcome.Asked c)) → state_of (h ++ submit_entries SERVER a.urb a.transfer c) w ≡ state_of h w
         some a is none apart = dite (ℕ_discrete w a.urb)
             (λ same. at a same c (subst (λ o. IsApart w (posed_by o (outcome.Asked c))) is apart))
             (λ off. submit_other SERVER a.urb a.transfer h c w off)
@@ -105,7 +105,7 @@ module _ (s : Scene) where
     pub asked_sent : (w : ℕ) → IsApart w (posed_by asking (outcome.Asked c)) → sent_of (h ++ asked_entries s asking c) w ≡ sent_of h w
     asked_sent w = asked_each (λ xs. IsApart w (posed_by asking (outcome.Asked c)) → sent_of (h ++ xs) w ≡ sent_of h w) asking c (λ apart. ap (λ l. sent_of l w) (append-nil h)) some
       where
-        at : (a : Question) (c : Code) → IsApart w (posed_by (Some a) (outcome.Asked c)) → cond (eqb a.urb w && is_zero c) (Some a.transfer) (sent_of h w) ≡ sent_of h w
+        at : (a : DriverQuestion) (c : Code) → IsApart w (posed_by (Some a) (outcome.Asked c)) → cond (eqb a.urb w && is_zero c) (Some a.transfer) (sent_of h w) ≡ sent_of h w
         at a Zero apart = ap (λ b. cond (b && true) (Some a.transfer) (sent_of h w)) (ne_eqb a.urb w (λ e. apart (sym e)))
         at a (Fault e) apart = none (eqb a.urb w)
           where
@@ -113,11 +113,11 @@ module _ (s : Scene) where
             none true = refl
             none false = refl
 
-        some : (a : Question) → asking ≡ Some a → shape_of a ≡ None → IsApart w (posed_by asking (outcome.Asked c)) → sent_of (h ++ submit_entries SERVER a.urb a.transfer c) w ≡ sent_of h w
+        some : (a : DriverQuestion) → asking ≡ Some a → shape_of a ≡ None → IsApart w (posed_by asking (outcome.Asked c)) → sent_of (h ++ submit_entries SERVER a.urb a.transfer c) w ≡ sent_of h w
         some a is none apart = submit_sent SERVER a.urb a.transfer h c w ∙ at a c (subst (λ o. IsApart w (posed_by o (outcome.Asked c))) is apart)
 
   -- the URB of one that was accepted is queued with its transfer
-  module _ (h : List Entry) (a : Question) (none : shape_of a ≡ None) where
+  module _ (h : List Entry) (a : DriverQuestion) (none : shape_of a ≡ None) where
     asks_so : asked_entries s (Some a) Zero ≡ submit_entries SERVER a.urb a.transfer Zero
     asks_so = ap (λ o. submit_of o SERVER a.urb a.transfer Zero) none
 
@@ -145,7 +145,7 @@ module _ (u : ℕ) (status : Code) where
     given_state = own_state u h (given_entries u status b) (given_about b) ∙ given_change b (state_of h u)
 
 -- what a handler does, which found this history
-module _ (s : Scene) (h : List Entry) (u : ℕ) (back again : Transfer) (asking : Option Question) where
+module _ (s : Scene) (h : List Entry) (u : ℕ) (back again : Transfer) (asking : Option DriverQuestion) where
   abbrev handling : Outcome → List Entry
   handling o = handled_by s u back again asking o
 
@@ -167,7 +167,7 @@ module _ (s : Scene) (h : List Entry) (u : ℕ) (back again : Transfer) (asking 
   handled_own apart e (outcome.Again (Fault c)) = own_state u h (handling (outcome.Again (Fault c))) (tt, refl, (tt, refl, tt)) ∙ ap (λ (n : ℕ). record (state_of h u) { rest = Some n }) e
   handled_own apart e (outcome.Asked c) = ap (λ (l : List Entry). state_of l u) (split_asked c) ∙ (asked_other s (h ++ rest ∷ []) asking c u (narrow asking apart c) ∙ own_state u h (rest ∷ []) (tt, refl, tt))
     where
-      narrow : (asking : Option Question) → IsApart u asking → (c : Code) → IsApart u (posed_by asking (outcome.Asked c))
+      narrow : (asking : Option DriverQuestion) → IsApart u asking → (c : Code) → IsApart u (posed_by asking (outcome.Asked c))
       narrow asking apart Zero = apart
       narrow asking apart (Fault e) = tt
 
@@ -211,7 +211,7 @@ module _ (s : Scene) (h : List Entry) (u : ℕ) (back again : Transfer) (asking 
           off false = refl
 
 module _ (s : Scene) (h : List Entry) (r : Giveback) where
-  abbrev asking : Option Question
+  abbrev asking : Option DriverQuestion
   asking = question_at s r.urb
 
   abbrev pub given : List Entry
@@ -295,7 +295,7 @@ module _ (s : Scene) (h : List Entry) (r : Giveback) where
       ∙ sym (append_assoc given (rest_entry r.urb (moved_in s r) ∷ []) (asked_entries s asking c)))
 
   -- the URB of a question that was accepted is queued with it
-  module _ (a : Question) (is : asking ≡ Some a) (did : r.outcome ≡ outcome.Asked Zero) (none : shape_fault (shape_at s (home s a.urb)) a.transfer ≡ None) (off : a.urb ≢ r.urb) where
+  module _ (a : DriverQuestion) (is : asking ≡ Some a) (did : r.outcome ≡ outcome.Asked Zero) (none : shape_fault (shape_at s (home s a.urb)) a.transfer ≡ None) (off : a.urb ≢ r.urb) where
     asks : h ++ giveback_entries s r ≡ (resting ++ asked_entries s (Some a) Zero) ++ end ∷ []
     asks = whole_asked Zero did ∙ ap (λ x. (resting ++ asked_entries s x Zero) ++ end ∷ []) is
 
@@ -328,7 +328,7 @@ module _ (s : Scene) (h : List Entry) (r : Giveback) where
               ),
             )
 
-    again_gated : (o : Option Question) (c : Code) → IsGated s given r.urb o (outcome.Again c) → c ≡ refusal (state_of given r.urb)
+    again_gated : (o : Option DriverQuestion) (c : Code) → IsGated s given r.urb o (outcome.Again c) → c ≡ refusal (state_of given r.urb)
     again_gated None c is = is
     again_gated (Some a) c is = is
 
@@ -351,7 +351,7 @@ module _ (s : Scene) (h : List Entry) (r : Giveback) where
         (f, (rest_follows s (given ++ submit (Fault e) ∷ []) r.urb (resent s r) can.goes (subst (λ (t : UrbState). 0 < t.handlers) (sym same) runs), tt))
 
     -- the submit of a question that its endpoint takes
-    posing : (a : Question) → CanPose s r.urb a → (c : Code) → c ≡ submit_answer (shape_fault (shape_at s (home s a.urb)) a.transfer) (refusal (state_of given a.urb))
+    posing : (a : DriverQuestion) → CanPose s r.urb a → (c : Code) → c ≡ submit_answer (shape_fault (shape_at s (home s a.urb)) a.transfer) (refusal (state_of given a.urb))
         → AllFollow (machine_of s) (given ++ rest_entry r.urb (moved_in s r) ∷ []) (asked_entries s (Some a) c)
     posing a pose c is = go (shape_fault (shape_at s (home s a.urb)) a.transfer) refl is
       where
@@ -364,7 +364,7 @@ module _ (s : Scene) (h : List Entry) (r : Giveback) where
         go None none says = subst (λ c. AllFollow (machine_of s) resting (submit_entries SERVER a.urb a.transfer c)) (ap refusal same ∙ sym says)
             (submit_follow s resting SERVER a.urb a.transfer (omega arith) pose.has pose.window pose.unmoved (subst (λ o. Accepts o a.transfer) (sym pose.home) none))
 
-    asked_follow : (o : Option Question) → CanPoseAny s r.urb o → (c : Code) → IsGated s given r.urb o (outcome.Asked c) → AllFollow (machine_of s) (given ++ rest_entry r.urb (moved_in s r) ∷ []) (asked_entries s o c)
+    asked_follow : (o : Option DriverQuestion) → CanPoseAny s r.urb o → (c : Code) → IsGated s given r.urb o (outcome.Asked c) → AllFollow (machine_of s) (given ++ rest_entry r.urb (moved_in s r) ∷ []) (asked_entries s o c)
     asked_follow None pose c is = tt
     asked_follow (Some a) pose c is = posing a pose c is
 
@@ -399,7 +399,7 @@ accepted_idle t is = go t.queued is
     go false e = refl
 
 -- a question that was accepted
-pub record IsPut (s : Scene) (h : List Entry) (r : Giveback) (a : Question) : Type 0 where
+pub record IsPut (s : Scene) (h : List Entry) (r : Giveback) (a : DriverQuestion) : Type 0 where
   pub pose : CanPose s r.urb a
   pub is : question_at s r.urb ≡ Some a
   pub did : r.outcome ≡ outcome.Asked Zero
@@ -411,10 +411,10 @@ module _ (s : Scene) (h : List Entry) (r : Giveback) (pose : CanPoseAny s r.urb 
   answered None code is = (refl, sym is)
   answered (Some e) code is = cc
 
-  put_by : (asking : Option Question) → question_at s r.urb ≡ asking → (o : Outcome) → r.outcome ≡ o → CanPoseAny s r.urb asking → IsGated s (given s h r) r.urb asking o → (a : Question) → posed_by asking o ≡ Some a → IsPut s h r a
+  put_by : (asking : Option DriverQuestion) → question_at s r.urb ≡ asking → (o : Outcome) → r.outcome ≡ o → CanPoseAny s r.urb asking → IsGated s (given s h r) r.urb asking o → (a : DriverQuestion) → posed_by asking o ≡ Some a → IsPut s h r a
   put_by None e o did pose gated a is = absurd (none (is_accepted o) is)
     where
-      none : (b : Bool) → cond {A = Option Question} b None None ≡ Some a → ⊥
+      none : (b : Bool) → cond {A = Option DriverQuestion} b None None ≡ Some a → ⊥
       none true x = cc
       none false x = cc
   put_by (Some b) e (outcome.Asked Zero) did pose gated a is =
@@ -431,20 +431,20 @@ module _ (s : Scene) (h : List Entry) (r : Giveback) (pose : CanPoseAny s r.urb 
   put_by (Some b) e outcome.Rest did pose gated a is = cc
   put_by (Some b) e (outcome.Again c) did pose gated a is = cc
 
-  pub put : (a : Question) → posed s r ≡ Some a → IsPut s h r a
+  pub put : (a : DriverQuestion) → posed s r ≡ Some a → IsPut s h r a
   put a is = put_by (question_at s r.urb) refl r.outcome refl pose gated a is
 
   -- it is not one that the gate refuses, nor one that is queued
   pub refused_apart : (v : ℕ) → is_zero (refusal (state_of h v)) ≡ false → IsApart v (posed s r)
   refused_apart v off = go (posed s r) refl
     where
-      go : (o : Option Question) → posed s r ≡ o → IsApart v o
+      go : (o : Option DriverQuestion) → posed s r ≡ o → IsApart v o
       go None e = tt
       go (Some a) e = λ same. true≢false (sym (ap is_zero (put a e).gate) ∙ (ap (λ u. is_zero (refusal (state_of h u))) (sym same) ∙ off))
 
   pub queued_apart : (v : ℕ) → (state_of h v).queued ≡ true → IsApart v (posed s r)
   queued_apart v on = go (posed s r) refl
     where
-      go : (o : Option Question) → posed s r ≡ o → IsApart v o
+      go : (o : Option DriverQuestion) → posed s r ≡ o → IsApart v o
       go None e = tt
       go (Some a) e = λ same. true≢false (sym on ∙ (ap (λ u. (state_of h u).queued) same ∙ accepted_idle (state_of h a.urb) (put a e).gate))

@@ -22,7 +22,7 @@ use Rattle.usb_prepare.specs.Layout.{home}
 use Rattle.usb_line.specs.declared.owner.Owner.{Owner}
 use Rattle.usb_line.specs.declared.made.Outcome.{Outcome}
 use Rattle.usb_line.specs.declared.made.Outcome.TheVariants as outcome
-use Rattle.usb_line.specs.Prepared.{owner_of, Question, question_at}
+use Rattle.usb_line.specs.Prepared.{owner_of, DriverQuestion, question_at}
 use Rattle.usb_line.specs.Run.{CallRecord, Giveback, IsRun, moved_in, resent, giveback_entries, may_again, question_out, asks_or_rests, action_by, acts, IsHandled, AreHandled}
 use Rattle.usb_line.specs.RunLaws.{takes_packets, write_of, writes_of, IsRefused, IsCutOff, IsPrinted, IsForWrites}
 use Rattle.usb_line.proofs.OneStatus.{sent_window}
@@ -42,7 +42,7 @@ Acts Ask (outcome.Again code) = ⊥
 Acts Ask outcome.Rest = Unit {0}
 Acts Ask (outcome.Asked code) = Unit {0}
 
-acts_so : (a : Action) (asking : Option Question) (out : Bool) (o : Outcome) → IsHandled (asks_or_rests asking out a) o → Acts a o
+acts_so : (a : Action) (asking : Option DriverQuestion) (out : Bool) (o : Outcome) → IsHandled (asks_or_rests asking out a) o → Acts a o
 acts_so a asking out o is = go a asking out is
   where
     again : (from len : ℕ) (o : Outcome) → IsHandled (Again from len) o → Acts (Again from len) o
@@ -65,7 +65,7 @@ acts_so a asking out o is = go a asking out is
     rather outcome.Rest is = tt
     rather (outcome.Asked code) is = tt
 
-    go : (a : Action) (asking : Option Question) (out : Bool) → IsHandled (asks_or_rests asking out a) o → Acts a o
+    go : (a : Action) (asking : Option DriverQuestion) (out : Bool) → IsHandled (asks_or_rests asking out a) o → Acts a o
     go (Again from len) None out is = again from len o is
     go (Again from len) (Some q) true is = again from len o is
     go (Again from len) (Some q) false is = again from len o is

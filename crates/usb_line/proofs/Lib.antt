@@ -59,7 +59,7 @@ pub mod Showing
 pub mod Awake
 pub mod Opening
 pub mod Numbered
-pub mod Question
+pub mod Posing
 pub mod Waiting
 pub mod Killing
 pub mod InTurn

@@ -46,7 +46,7 @@ use Rattle.usb_line.proofs.Pendings.{IsHeld, held_transfer}
 use Rattle.usb_line.proofs.Chained.{goes}
 use Rattle.usb_line.proofs.Devices.{replies_due, devices_asked}
 use Rattle.usb_line.proofs.Returned.{shows_returned, falls_returned}
-use Rattle.usb_line.proofs.Question.{can_pose_any}
+use Rattle.usb_line.proofs.Posing.{can_pose_any}
 use Rattle.usb_line.proofs.Falling.{moved_behind, all_left, devices_keep, devices_fall, waits_keeps, driver_spends}
 use Rattle.usb_line.proofs.Resending.{moved_fits}
 

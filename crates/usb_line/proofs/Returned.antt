@@ -30,7 +30,7 @@ use Rattle.usb_line.specs.declared.run.EndRow.{EndRow}
 use Rattle.usb_line.specs.declared.run.LineRun.{LineRun}
 use Rattle.usb_prepare.specs.Ends.{shape_at}
 use Rattle.usb_prepare.specs.Layout.{home}
-use Rattle.usb_line.specs.Prepared.{machine_of, owner_of, again_of, Question, question_at}
+use Rattle.usb_line.specs.Prepared.{machine_of, owner_of, again_of, DriverQuestion, question_at}
 use Rattle.usb_line.specs.Run.{Giveback, moved_in, action_by, is_accepted, may_again, question_out, asks_or_rests, given_entries, giveback_entries, times_back}
 use Rattle.usb_line.specs.Line.{Progress, outcome_by, round_of, given_back}
 use Rattle.usb_line.specs.GivebackRow.{giveback_row, brought_bytes, sent_bytes}
@@ -40,7 +40,7 @@ use Rattle.usb_line.specs.Turned.{SameElse}
 use Rattle.usb_line.proofs.Moves.{moved_same}
 use Rattle.usb_line.proofs.Homes.{some_at}
 use Rattle.usb_line.proofs.Cores.{row_asks}
-use Rattle.usb_line.proofs.Question.{asking_apt, asking_weighs}
+use Rattle.usb_line.proofs.Posing.{asking_apt, asking_weighs}
 use Rattle.usb_line.proofs.Givebacks.{IsApart, posed, IsPut, put, accepted_idle}
 use Rattle.usb_line.proofs.DriverQuestions.{IsQuestionPosed, IsSeen, noted_action, noted_cores, posed_none, posed_some}
 use Rattle.usb_line.proofs.Resending.{resent_action, resent_apt}
@@ -60,7 +60,7 @@ noted_as old old_as new o o_as may status status_as t t_as action a b c d noted 
     (subst (λ (x : Code). Noted old new o may x t_as action) c (subst (λ (x : Transfer). Noted old new o may status x action) d noted)))
 
 -- a handler submits again where its action says so
-again_as : (s : Scene) (h : List Entry) (u : ℕ) (asking : Option Question) (out : Bool) (act : Action) → is_again (outcome_by s h u asking (asks_or_rests asking out act)) ≡ goes_again act
+again_as : (s : Scene) (h : List Entry) (u : ℕ) (asking : Option DriverQuestion) (out : Bool) (act : Action) → is_again (outcome_by s h u asking (asks_or_rests asking out act)) ≡ goes_again act
 again_as s h u None true action.Rest = refl
 again_as s h u None false action.Rest = refl
 again_as s h u (Some a) true action.Rest = refl
@@ -232,7 +232,7 @@ module _ (s : Scene) (good : IsWellFormed s) (f : Progress) (run : LineRun) (old
           none_accepted (outcome.Again c) did e = refl
           none_accepted (outcome.Asked c) did e = absurd (no_question (question_at s u) (subst (λ q. IsPosedBy s (question_at s u) (outcome.Asked c) q) e (subst (λ o. IsPosedBy s (question_at s u) o back.posed_question) did decided.1.posed)))
             where
-              no_question : (a : Option Question) → IsPosedBy s a (outcome.Asked c) None → ⊥
+              no_question : (a : Option DriverQuestion) → IsPosedBy s a (outcome.Asked c) None → ⊥
               no_question None p = p
               no_question (Some a) p = p
 
@@ -240,7 +240,7 @@ module _ (s : Scene) (good : IsWellFormed s) (f : Progress) (run : LineRun) (old
           put_row : (q : PosedQuestion) → back.posed_question ≡ Some q → SettledBy back.acted new q (outcome.Asked Zero) → r.outcome ≡ outcome.Asked Zero → ShowsUrb s (given_back s f r) v x
           put_row q e done did = with_question (question_at s u) refl (subst (λ y. IsPosedBy s (question_at s u) (outcome.Asked Zero) y) e (subst (λ o. IsPosedBy s (question_at s u) o back.posed_question) did decided.1.posed))
             where
-              with_question : (asking : Option Question) → question_at s u ≡ asking → IsPosedBy s asking (outcome.Asked Zero) (Some q) → ShowsUrb s (given_back s f r) v x
+              with_question : (asking : Option DriverQuestion) → question_at s u ≡ asking → IsPosedBy s asking (outcome.Asked Zero) (Some q) → ShowsUrb s (given_back s f r) v x
               with_question None is p = absurd p
               with_question (Some a) is p =
                   let posed_is : posed s r ≡ Some a = (λ i. cond (ap is_accepted did i) (is i) None) in
@@ -255,7 +255,7 @@ module _ (s : Scene) (good : IsWellFormed s) (f : Progress) (run : LineRun) (old
                   go_old (inl same) p_ut = absurd (p_ut.pose.apart same.0)
                   go_old (inr off) p_ut = off.1
 
-                  at_last : (a : Question) → question_at s u ≡ Some a → IsPut s f.history r a → (y : UrbRow) → slice_get run.urbs.items a.urb ≡ Some y
+                  at_last : (a : DriverQuestion) → question_at s u ≡ Some a → IsPut s f.history r a → (y : UrbRow) → slice_get run.urbs.items a.urb ≡ Some y
                       → ((v ≡ a.urb) × (x ≡ record y { transfer = Some a.transfer })) ⊎ ((v ≢ a.urb) × (slice_get back.acted.urbs.items v ≡ Some x)) → ShowsUrb s (given_back s f r) v x
                   at_last a is p_ut y before (inl same) = subst (λ w. ShowsUrb s (given_back s f r) w x) (sym same.0) (subst (ShowsUrb s (given_back s f r) a.urb) (sym same.1)
                       (urb_posed s f r old.stands.legal a p_ut y (asking_apt s good u a is) (old.each_urb a.urb y before)))
@@ -369,11 +369,11 @@ module _ (s : Scene) (good : IsWellFormed s) (f : Progress) (run : LineRun) (old
               go None e = refl
               go (Some x) e = absurd (true≢false (sym (subst (HoldsTransfer s f v) e shown.holds).0 ∙ idle))
 
-          stood_before : (a : Question) → IsPut s f.history r a → (y : UrbRow) → ((a.urb ≡ u) × (y ≡ row_back back.did back.action now back.row)) ⊎ ((a.urb ≢ u) × (slice_get run.urbs.items a.urb ≡ Some y)) → slice_get run.urbs.items a.urb ≡ Some y
+          stood_before : (a : DriverQuestion) → IsPut s f.history r a → (y : UrbRow) → ((a.urb ≡ u) × (y ≡ row_back back.did back.action now back.row)) ⊎ ((a.urb ≢ u) × (slice_get run.urbs.items a.urb ≡ Some y)) → slice_get run.urbs.items a.urb ≡ Some y
           stood_before a p_ut y (inl same) = absurd (p_ut.pose.apart same.0)
           stood_before a p_ut y (inr off) = off.1
 
-          with_question : (asking : Option Question) → question_at s u ≡ asking → IsPosedBy s asking (outcome.Asked Zero) (Some q) → turns_left new < turns_left run
+          with_question : (asking : Option DriverQuestion) → question_at s u ≡ asking → IsPosedBy s asking (outcome.Asked Zero) (Some q) → turns_left new < turns_left run
           with_question None is_none p = absurd p
           with_question (Some a) is_some p =
               let p_ut : IsPut s f.history r a = put s f.history r pose may.can.gated a (λ i. cond (ap is_accepted did_so i) (is_some i) None) in

@@ -26,7 +26,7 @@ use Rattle.usb_line.specs.declared.made.Outcome.{Outcome}
 use Rattle.usb_line.specs.declared.made.Outcome.TheVariants as outcome
 use Rattle.usb_prepare.specs.Ends.{shape_at}
 use Rattle.usb_prepare.specs.Layout.{home}
-use Rattle.usb_line.specs.Prepared.{machine_of, owner_of, Question, question_at}
+use Rattle.usb_line.specs.Prepared.{machine_of, owner_of, DriverQuestion, question_at}
 use Rattle.usb_line.specs.Between.{IsBare}
 use Rattle.usb_line.specs.Run.{Giveback, moved_in, resent, rest_entry, handled_by, handler_entries, given_entries, giveback_entries, episode_of, is_aside, is_first, acts, IsGiveback, IsHandled, AreHandled, rounds_at, replies_in, firsts_of, firsts_after, asked_in, asked_of}
 use Rattle.usb_line.specs.Line.{Progress, with_at, given_back, asks}
@@ -86,7 +86,7 @@ module _ (s : Scene) (f : Progress) (r : Giveback) where
   handler_episodes m (outcome.Asked c) =
       asked_each s (λ xs. (m : List Entry) → episodes_after m (xs ++ plain_entry SERVER (End record { 0 = r.urb }) ∷ []) ≡ []) (question_at s r.urb) c (λ m. refl) (λ a is none. some a c) (m ++ rest_entry r.urb (moved_in s r) ∷ [])
     where
-      some : (a : Question) (c : Code) (m : List Entry) → episodes_after m (submit_entries SERVER a.urb a.transfer c ++ plain_entry SERVER (End record { 0 = r.urb }) ∷ []) ≡ []
+      some : (a : DriverQuestion) (c : Code) (m : List Entry) → episodes_after m (submit_entries SERVER a.urb a.transfer c ++ plain_entry SERVER (End record { 0 = r.urb }) ∷ []) ≡ []
       some a Zero m = refl
       some a (Fault e) m = refl
 
@@ -110,7 +110,7 @@ module _ (s : Scene) (f : Progress) (r : Giveback) where
   handler_firsts m (outcome.Asked c) =
       asked_each s (λ xs. (m : List Entry) → firsts_after (machine_of s) m (xs ++ plain_entry SERVER (End record { 0 = r.urb }) ∷ []) ≡ []) (question_at s r.urb) c (λ m. refl) (λ a is none. some a c) (m ++ rest_entry r.urb (moved_in s r) ∷ [])
     where
-      some : (a : Question) (c : Code) (m : List Entry) → firsts_after (machine_of s) m (submit_entries SERVER a.urb a.transfer c ++ plain_entry SERVER (End record { 0 = r.urb }) ∷ []) ≡ []
+      some : (a : DriverQuestion) (c : Code) (m : List Entry) → firsts_after (machine_of s) m (submit_entries SERVER a.urb a.transfer c ++ plain_entry SERVER (End record { 0 = r.urb }) ∷ []) ≡ []
       some a Zero m = refl
       some a (Fault e) m = refl
 
@@ -131,7 +131,7 @@ module _ (s : Scene) (f : Progress) (r : Giveback) where
   handler_served (outcome.Asked c) = ap (λ xs. rest_entry r.urb (moved_in s r) ∷ xs)
       (asked_each s (λ xs. served (xs ++ plain_entry SERVER (End record { 0 = r.urb }) ∷ []) ≡ xs ++ plain_entry SERVER (End record { 0 = r.urb }) ∷ []) (question_at s r.urb) c refl (λ a is none. some a c))
     where
-      some : (a : Question) (c : Code) → let xs = submit_entries SERVER a.urb a.transfer c ++ plain_entry SERVER (End record { 0 = r.urb }) ∷ [] in served xs ≡ xs
+      some : (a : DriverQuestion) (c : Code) → let xs = submit_entries SERVER a.urb a.transfer c ++ plain_entry SERVER (End record { 0 = r.urb }) ∷ [] in served xs ≡ xs
       some a Zero = refl
       some a (Fault e) = refl
 
@@ -269,7 +269,7 @@ module _ (s : Scene) (f : Progress) (r : Giveback) where
         apart : IsApart v (posed s r) → SentBare s v (sent_of g.history v)
         apart off = subst (SentBare s v) (sym (giveback_sent s h r v off)) (go (eqb r.urb v) refl (resubmits r.outcome))
 
-        by_posed : (o : Option Question) → posed s r ≡ o → SentBare s v (sent_of g.history v)
+        by_posed : (o : Option DriverQuestion) → posed s r ≡ o → SentBare s v (sent_of g.history v)
         by_posed None is = apart (subst (IsApart v) (sym is) tt)
         by_posed (Some a) is = dite (ℕ_discrete v a.urb)
             (λ same.

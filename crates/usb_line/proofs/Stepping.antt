@@ -24,7 +24,7 @@ use Rattle.usb_prepare.specs.Layout.{home}
 use Rattle.usb_line.specs.Prepared.{machine_of, owner_of}
 use Rattle.usb_line.specs.Run.{Giveback, moved_in, resent, handled_by, given_entries}
 use Rattle.usb_line.specs.declared.giveback.PosedQuestion.{PosedQuestion}
-use Rattle.usb_line.specs.Prepared.{Question, question_at}
+use Rattle.usb_line.specs.Prepared.{DriverQuestion, question_at}
 use Rattle.usb_line.specs.Back.{CanGive, finish_entries, given_after, acted_entries, is_again, IsPosed, IsPosedBy}
 use Rattle.usb_line.proofs.Moves.{moved_same}
 use Rattle.usb_line.proofs.Resending.{resent_number}
@@ -127,14 +127,14 @@ again_says (outcome.Again says) is = (says, refl)
 again_says (outcome.Asked says) is = cc
 
 -- one that submits nothing again rests, where it asks nothing
-pub rests : (s : Scene) (asking : Option Question) (o : Outcome) → is_again o ≡ false → IsPosedBy s asking o None → o ≡ outcome.Rest
+pub rests : (s : Scene) (asking : Option DriverQuestion) (o : Outcome) → is_again o ≡ false → IsPosedBy s asking o None → o ≡ outcome.Rest
 rests s asking outcome.Rest is posed = refl
 rests s asking (outcome.Again says) is posed = cc
 rests s None (outcome.Asked says) is posed = absurd posed
 rests s (Some a) (outcome.Asked says) is posed = absurd posed
 
 -- and else asks
-pub asks : (s : Scene) (asking : Option Question) (o : Outcome) (q : PosedQuestion) → is_again o ≡ false → IsPosedBy s asking o (Some q) → (a : Question) × (says : Code) × (asking ≡ Some a) × (o ≡ outcome.Asked says) × IsPosed s a q
+pub asks : (s : Scene) (asking : Option DriverQuestion) (o : Outcome) (q : PosedQuestion) → is_again o ≡ false → IsPosedBy s asking o (Some q) → (a : DriverQuestion) × (says : Code) × (asking ≡ Some a) × (o ≡ outcome.Asked says) × IsPosed s a q
 asks s asking outcome.Rest q is posed = cc
 asks s asking (outcome.Again says) q is posed = cc
 asks s None (outcome.Asked says) q is posed = absurd posed

@@ -31,7 +31,7 @@ use Rattle.usb_line.specs.declared.made.Outcome.{Outcome}
 use Rattle.usb_line.specs.declared.made.Outcome.TheVariants as outcome
 use Rattle.usb_prepare.specs.Ends.{ends_of, shape_at}
 use Rattle.usb_prepare.specs.Layout.{urb_count, home}
-use Rattle.usb_line.specs.Prepared.{machine_of, Question, question_at}
+use Rattle.usb_line.specs.Prepared.{machine_of, DriverQuestion, question_at}
 use Rattle.usb_line.specs.Run.{urbs_of, Giveback, given_entries, giveback_entries, acts, moved_in}
 use Rattle.usb_line.specs.Line.{Progress, takes_below, with_takes, is_unlinked, marked_of, had_after, outcome_by, round_of, replies_had, Gives, unlinked, ended, IsIdle, woken, StaysLoud, begins, goes_on, WaitsFor, already, turns, killing, all_flagged, shutting}
 use Rattle.usb_line.specs.Steps.{IsStopping}
@@ -43,7 +43,7 @@ use Rattle.usb_line.specs.Between.{is_finished, IsCalm, AllLinked}
 use Rattle.usb_line.proofs.Calm.{linked_takes, linked_giveback, calm_places}
 use Rattle.usb_line.proofs.Marked.{is_marked}
 use Rattle.usb_line.proofs.Turns.{passed, outcome_gated}
-use Rattle.usb_line.proofs.Question.{can_pose_any}
+use Rattle.usb_line.proofs.Posing.{can_pose_any}
 
 module _ (u : ℕ) where
   abbrev pub Stops : List Entry → Type 0
@@ -56,7 +56,7 @@ module _ (u : ℕ) where
     refused_again : is_zero (refusal (record (state_of f.history v) { queued = false })) ≡ false → resubmits r.outcome ≡ false
     refused_again shut = go (question_at s v) (acts s f.rounds v status (moved (shape_at s (home s v)) t replies))
       where
-        go : (asking : Option Question) (act : Action) → resubmits (outcome_by s (f.history ++ given_entries v status finished) v asking act) ≡ false
+        go : (asking : Option DriverQuestion) (act : Action) → resubmits (outcome_by s (f.history ++ given_entries v status finished) v asking act) ≡ false
         go asking (action.Again from len) = ap (λ (t : UrbState). is_zero (refusal t)) (given_state v status f.history finished) ∙ shut
         go asking action.Rest = refl
         go (Some a) action.Ask = refl

@@ -27,11 +27,11 @@ use Rattle.usb_scene.specs.WellFormed.{IsWellFormed}
 use Rattle.usb_line.specs.declared.owner.Owner.{Owner}
 use Rattle.usb_prepare.specs.Ends.{ends_of, shape_at}
 use Rattle.usb_prepare.specs.Layout.{home}
-use Rattle.usb_line.specs.Prepared.{machine_of, owner_of, Question, question_at}
+use Rattle.usb_line.specs.Prepared.{machine_of, owner_of, DriverQuestion, question_at}
 use Rattle.usb_line.specs.Run.{Giveback, resent, given_entries, giveback_entries, is_first, is_accepted, action_by, may_again, question_out, asks_or_rests, acts, IsGiveback, IsHandled, asked_in, asked_of}
 use Rattle.usb_line.specs.Line.{Progress, with_takes, takes_below, is_unlinked, marked_of, had_after, GoesTo, IsServed, IsMarked, outcome_by, outcome_at, round_of, given_back, replies_had, waits, Passes, none, over, stops, Gives, unlinked, ended, GivesBack, one, IsIdle, asks}
 use Rattle.usb_line.specs.Due.{next_due}
-use Rattle.usb_line.proofs.Question.{can_pose_any}
+use Rattle.usb_line.proofs.Posing.{can_pose_any}
 use Rattle.usb_line.proofs.Entries.{stays}
 use Rattle.usb_line.proofs.MayFollow.{once}
 use Rattle.usb_line.proofs.Takes.{below_pass}
@@ -84,7 +84,7 @@ pub outcome_gated : (s : Scene) (f : Progress) (u : ℕ) (status : Code) (finish
     → IsGated s (f.history ++ given_entries u status finished) u (question_at s u) (outcome_at s f u status finished t)
 outcome_gated s f u status finished t = go (question_at s u) (acts s f.rounds u status t)
   where
-    go : (asking : Option Question) (act : Action) → IsGated s (f.history ++ given_entries u status finished) u asking (outcome_by s (f.history ++ given_entries u status finished) u asking act)
+    go : (asking : Option DriverQuestion) (act : Action) → IsGated s (f.history ++ given_entries u status finished) u asking (outcome_by s (f.history ++ given_entries u status finished) u asking act)
     go asking (action.Again from len) = refl
     go (Some a) action.Ask = refl
     go None action.Ask = tt
@@ -93,7 +93,7 @@ outcome_gated s f u status finished t = go (question_at s u) (acts s f.rounds u 
 outcome_handled : (s : Scene) (f : Progress) (u : ℕ) (status : Code) (finished : Bool) (t : Transfer) → IsHandled (acts s f.rounds u status t) (outcome_at s f u status finished t)
 outcome_handled s f u status finished t = go (question_at s u) (question_out s f.rounds (owner_of s u)) (action_by (owner_of s u) (may_again s f.rounds u) status t)
   where
-    go : (asking : Option Question) (out : Bool) (raw : Action)
+    go : (asking : Option DriverQuestion) (out : Bool) (raw : Action)
         → IsHandled (asks_or_rests asking out raw) (outcome_by s (f.history ++ given_entries u status finished) u asking (asks_or_rests asking out raw))
     go (Some a) false action.Ask = tt
     go (Some a) true action.Ask = tt
@@ -112,7 +112,7 @@ outcome_handled s f u status finished t = go (question_at s u) (question_out s f
 pub unlinked_unasked : (s : Scene) (f : Progress) (u : ℕ) (why : Why) (finished : Bool) (t : Transfer) → is_accepted (outcome_at s f u (Fault (errno_of why)) finished t) ≡ false
 unlinked_unasked s f u why finished t = by_owner (owner_of s u) (question_at s u) (question_out s f.rounds (owner_of s u))
   where
-    none : (raw : Action) → (raw ≡ action.Ask → ⊥) → (asking : Option Question) (out : Bool)
+    none : (raw : Action) → (raw ≡ action.Ask → ⊥) → (asking : Option DriverQuestion) (out : Bool)
         → is_accepted (outcome_by s (f.history ++ given_entries u (Fault (errno_of why)) finished) u asking (asks_or_rests asking out raw)) ≡ false
     none action.Ask off asking out = absurd (off refl)
     none action.Rest off (Some a) true = refl
@@ -128,7 +128,7 @@ unlinked_unasked s f u why finished t = by_owner (owner_of s u) (question_at s u
     own true e = cc
     own false e = cc
 
-    by_owner : (o : Option Owner) (asking : Option Question) (out : Bool)
+    by_owner : (o : Option Owner) (asking : Option DriverQuestion) (out : Bool)
         → is_accepted (outcome_by s (f.history ++ given_entries u (Fault (errno_of why)) finished) u asking (asks_or_rests asking out (action_by o (may_again s f.rounds u) (Fault (errno_of why)) t))) ≡ false
     by_owner None asking out = none (action_by None (may_again s f.rounds u) (Fault (errno_of why)) t) (own (may_again s f.rounds u)) asking out
     by_owner (Some o) asking out = none (action_by (Some o) (may_again s f.rounds u) (Fault (errno_of why)) t) (λ e. let rests = unlinked_rests o.driver o.role why t in let x = sym rests ∙ e in cc) asking out

@@ -21,7 +21,7 @@ use Rattle.usb_class.specs.Handler.{goes_again}
 use Rattle.usb_class.proofs.Facts.{unlinked_rests}
 use Rattle.usb_scene.specs.declared.scene.Scene.{Scene}
 use Rattle.usb_scene.specs.WellFormed.{IsWellFormed}
-use Rattle.usb_line.proofs.Question.{can_pose_any}
+use Rattle.usb_line.proofs.Posing.{can_pose_any}
 use Rattle.usb_line.specs.declared.run.UrbRow.{UrbRow}
 use Rattle.usb_line.specs.declared.run.LineRun.{LineRun}
 use Rattle.usb_prepare.specs.Ends.{ends_of, shape_at}

@@ -17,7 +17,7 @@ use Rattle.usb_prepare.specs.Ends.{shape_at}
 use Rattle.usb_prepare.specs.Layout.{home}
 use Rattle.usb_line.specs.declared.owner.Owner.{Owner}
 use Rattle.usb_line.specs.declared.made.Outcome.TheVariants as outcome
-use Rattle.usb_line.specs.Prepared.{owner_of, Question, question_at}
+use Rattle.usb_line.specs.Prepared.{owner_of, DriverQuestion, question_at}
 use Rattle.usb_line.specs.Run.{CallRecord, IsRun, times_back, Giveback, moved_in, resent, resent_as, may_again, question_out, asks_or_rests, action_by, acts, IsHandled, AreHandled}
 use Rattle.usb_line.specs.RunLaws.{takes_packets}
 use Rattle.usb_line.proofs.Carrying.{sent_on}
@@ -28,7 +28,7 @@ handled_at s m [] r behind all = subst (λ l. IsHandled (acts s l r.urb r.status
 handled_at s m (x ∷ before) r behind all = subst (λ l. IsHandled (acts s l r.urb r.status (moved_in s r)) r.outcome) (append_assoc m (x ∷ []) before) (handled_at s (m ++ x ∷ []) before r behind all.1)
 
 -- what is submitted again is moved on, as the action says
-goes_on : (a : Action) (asking : Option Question) (out : Bool) (t : Transfer) → IsHandled (asks_or_rests asking out a) (outcome.Again Zero) → IsMovedOn a t (window_by a t)
+goes_on : (a : Action) (asking : Option DriverQuestion) (out : Bool) (t : Transfer) → IsHandled (asks_or_rests asking out a) (outcome.Again Zero) → IsMovedOn a t (window_by a t)
 goes_on (Again from len) asking out t is = refl
 goes_on Rest None out t is = absurd is
 goes_on Rest (Some a) true t is = absurd is

@@ -37,20 +37,20 @@ use Rattle.usb_prepare.specs.Ends.{shape_at}
 use Rattle.usb_prepare.specs.Layout.{home}
 use Rattle.usb_line.specs.declared.giveback.PosedQuestion.{PosedQuestion}
 use Rattle.usb_line.specs.Between.{IsBare}
-use Rattle.usb_line.specs.Prepared.{machine_of, owner_of, Question, question_at}
+use Rattle.usb_line.specs.Prepared.{machine_of, owner_of, DriverQuestion, question_at}
 use Rattle.usb_line.specs.Line.{submit_answer}
 use Rattle.usb_line.specs.Run.{Giveback, moved_in, resent, action_by, asked_entries, handled_by, given_entries, giveback_entries}
 use Rattle.usb_line.specs.GivebackRow.{brought_bytes, sent_bytes, IsReceived}
 
 -- the handler was answered by the gate: of the URB that it submits again in this state, or of the one that a question is asked with
-abbrev pub IsGated : Scene → List Entry → ℕ → Option Question → Outcome → Type 0
+abbrev pub IsGated : Scene → List Entry → ℕ → Option DriverQuestion → Outcome → Type 0
 IsGated s h u asking outcome.Rest = Unit {0}
 IsGated s h u asking (outcome.Again code) = code ≡ refusal (state_of h u)
 IsGated s h u (Some a) (outcome.Asked code) = code ≡ submit_answer (shape_fault (shape_at s (home s a.urb)) a.transfer) (refusal (state_of h a.urb))
 IsGated s h u None (outcome.Asked code) = ⊥
 
 -- a question can be asked with its URB, which is not the one that comes back
-pub record CanPose (s : Scene) (u : ℕ) (a : Question) : Type 0 where
+pub record CanPose (s : Scene) (u : ℕ) (a : DriverQuestion) : Type 0 where
   pub apart : a.urb ≢ u
   pub has : HasHome (machine_of s) a.urb
   pub window : HasWindow a.transfer
@@ -58,7 +58,7 @@ pub record CanPose (s : Scene) (u : ℕ) (a : Question) : Type 0 where
   pub home : slice_get (machine_of s).layout.shapes (home s a.urb) ≡ Some (shape_at s (home s a.urb))
   pub bare : IsBare (owner_of s a.urb) a.transfer.setup
 
-abbrev pub CanPoseAny : Scene → ℕ → Option Question → Type 0
+abbrev pub CanPoseAny : Scene → ℕ → Option DriverQuestion → Type 0
 CanPoseAny s u None = Unit {0}
 CanPoseAny s u (Some a) = CanPose s u a
 
@@ -175,13 +175,13 @@ Resubmitted old new u number code = (s : Scene) (h : List Entry) (r : Giveback) 
     → r.outcome ≡ outcome.Again says → (code ≡ says) × Stands new (machine_of s) (given_after h r ++ acted_entries s r)
 
 -- the code's question is this one
-pub record IsPosed (s : Scene) (a : Question) (q : PosedQuestion) : Type 0 where
+pub record IsPosed (s : Scene) (a : DriverQuestion) (q : PosedQuestion) : Type 0 where
   pub urb : q.urb.0 ≡ a.urb
   pub transfer : q.transfer ≡ a.transfer
   pub fault : q.fault ≡ shape_fault (shape_at s (home s a.urb)) a.transfer
 
 -- the giveback asks the question that the code has
-abbrev pub IsPosedBy : Scene → Option Question → Outcome → Option PosedQuestion → Type 0
+abbrev pub IsPosedBy : Scene → Option DriverQuestion → Outcome → Option PosedQuestion → Type 0
 IsPosedBy s asking outcome.Rest q = q ≡ None
 IsPosedBy s asking (outcome.Again code) q = Unit {0}
 IsPosedBy s (Some a) (outcome.Asked code) (Some q) = IsPosed s a q
@@ -192,7 +192,7 @@ ArePosed s r q = IsPosedBy s (question_at s r.urb) r.outcome q
 
 -- it asked this question
 abbrev pub PosesQuestion : Plain → Plain → PosedQuestion → Code → Type 0
-PosesQuestion old new q code = (s : Scene) (h : List Entry) (u : ℕ) (a : Question) → Stands old (machine_of s) h → CanPose s u a → IsPosed s a q
+PosesQuestion old new q code = (s : Scene) (h : List Entry) (u : ℕ) (a : DriverQuestion) → Stands old (machine_of s) h → CanPose s u a → IsPosed s a q
     → (code ≡ submit_answer (shape_fault (shape_at s (home s a.urb)) a.transfer) (refusal (state_of h a.urb))) × Stands new (machine_of s) (h ++ asked_entries s (Some a) code)
 
 -- it did this

@@ -36,7 +36,7 @@ use Rattle.usb_line.specs.declared.made.Outcome.{Outcome}
 use Rattle.usb_line.specs.declared.made.Outcome.TheVariants as outcome
 use Rattle.usb_prepare.specs.Ends.{ends_of, shape_at}
 use Rattle.usb_prepare.specs.Layout.{home}
-use Rattle.usb_line.specs.Prepared.{machine_of, Question, question_at, submit_fault, host_call_of, pass_of, main_pass, calls_of}
+use Rattle.usb_line.specs.Prepared.{machine_of, DriverQuestion, question_at, submit_fault, host_call_of, pass_of, main_pass, calls_of}
 use Rattle.usb_line.specs.Run.{urbs_of, CallRecord, call_entries, down_after, Giveback, given_entries, giveback_entries, acts, is_first, opening, seen_quiet, asked_of}
 use Rattle.usb_line.specs.Due.{next_due}
 use Rattle.std.specs.List.{flat_map}
@@ -128,7 +128,7 @@ submit_answer None code = code
 submit_answer (Some errno) code = Fault errno
 
 -- what a handler of u that acts so after this history is answered by the gate: where it submits u again, and where it asks
-abbrev pub outcome_by : Scene → List Entry → ℕ → Option Question → Action → Outcome
+abbrev pub outcome_by : Scene → List Entry → ℕ → Option DriverQuestion → Action → Outcome
 outcome_by s h u asking (action.Again from len) = outcome.Again (refusal (state_of h u))
 outcome_by s h u (Some a) action.Ask = outcome.Asked (submit_answer (shape_fault (shape_at s (home s a.urb)) a.transfer) (refusal (state_of h a.urb)))
 outcome_by s h u asking act = outcome.Rest

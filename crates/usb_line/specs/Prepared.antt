@@ -112,20 +112,20 @@ unfoldable pub origin_of : Scene → ℕ → Origin
 origin_of s k = origin_by s k (slice_get (bindings_of s) k)
 
 -- a question of a driver: the URB that it is asked with, and the transfer
-pub record Question : Type 0 where
+pub record DriverQuestion : Type 0 where
   pub urb : ℕ
   pub transfer : Transfer
 
-abbrev pub question_with : Option UrbId → Option Transfer → Option Question
+abbrev pub question_with : Option UrbId → Option Transfer → Option DriverQuestion
 question_with (Some urb) (Some t) = Some (record { urb = urb.0; transfer = t })
 question_with _ _ = None
 
 -- the question of the driver that has an URB, if it has one. After the URB that it is asked with it asks none
-abbrev pub owner_question : Scene → Option Owner → Option Question
+abbrev pub owner_question : Scene → Option Owner → Option DriverQuestion
 owner_question s None = None
 owner_question s (Some o) = if is_ctl o.role then None else question_with o.ctl (question_by o.driver (origin_of s o.place))
 
-unfoldable pub question_at : Scene → ℕ → Option Question
+unfoldable pub question_at : Scene → ℕ → Option DriverQuestion
 question_at s u = owner_question s (owner_of s u)
 
 -- so many bytes to be read

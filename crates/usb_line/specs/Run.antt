@@ -45,7 +45,7 @@ use Rattle.usb_prepare.specs.Below.{below}
 use Rattle.usb_prepare.specs.Ends.{shape_at}
 use Rattle.usb_prepare.specs.Layout.{urb_count, home}
 use Rattle.usb_prepare.specs.Prepared.{bindings_of}
-use Rattle.usb_line.specs.Prepared.{machine_of, owner_of, read_of, origin_of, Question, question_at, fresh, submit_fault, again_of, host_call_of, pass_of, main_pass}
+use Rattle.usb_line.specs.Prepared.{machine_of, owner_of, read_of, origin_of, DriverQuestion, question_at, fresh, submit_fault, again_of, host_call_of, pass_of, main_pass}
 use Rattle.usb_line.specs.Due.{next_due}
 
 -- all URBs of a scene
@@ -159,12 +159,12 @@ abbrev pub rest_entry : ℕ → Transfer → Entry
 rest_entry u t = entry SERVER (Rest record { 0 = u } t.number) Nothing (Some t)
 
 -- a driver's question is submitted, where the endpoint takes it
-abbrev pub asked_entries : Scene → Option Question → Code → List Entry
+abbrev pub asked_entries : Scene → Option DriverQuestion → Code → List Entry
 asked_entries s None code = []
 asked_entries s (Some a) code = submit_of (shape_fault (shape_at s (home s a.urb)) a.transfer) SERVER a.urb a.transfer code
 
 -- the handler rests the transfer, or submits it again and rests it where that is refused, or rests it and asks its driver's question
-abbrev pub handled_by : Scene → ℕ → Transfer → Transfer → Option Question → Outcome → List Entry
+abbrev pub handled_by : Scene → ℕ → Transfer → Transfer → Option DriverQuestion → Outcome → List Entry
 handled_by s u back again asking outcome.Rest = rest_entry u back ∷ []
 handled_by s u back again asking (outcome.Again code) = submit_entries SERVER u again code ++ (if is_zero code then [] else rest_entry u again ∷ [])
 handled_by s u back again asking (outcome.Asked code) = rest_entry u back ∷ asked_entries s asking code
@@ -221,7 +221,7 @@ abbrev pub question_out : Scene → List Giveback → Option Owner → Bool
 question_out s rounds o = option_map_or (λ (o : Owner). is_out s o.place rounds) o false
 
 -- a driver asks where it has a question that is not out, and else rests
-abbrev pub asks_or_rests : Option Question → Bool → Action → Action
+abbrev pub asks_or_rests : Option DriverQuestion → Bool → Action → Action
 asks_or_rests (Some asking) false action.Ask = action.Ask
 asks_or_rests asking out action.Ask = action.Rest
 asks_or_rests asking out act = act

@@ -23,7 +23,7 @@ use Rattle.usb_line.specs.declared.made.CallMade.{CallMade}
 use Rattle.usb_line.specs.declared.made.GivebackRow.{GivebackRow}
 use Rattle.usb_line.specs.declared.made.HostCall.{HostCall}
 use Rattle.usb_line.specs.declared.made.HostCall.TheVariants as host_call
-use Rattle.usb_line.specs.Prepared.{Question, question_at, host_call_on, host_call_alone, host_call_by, submit_fault, fresh, pass_of}
+use Rattle.usb_line.specs.Prepared.{DriverQuestion, question_at, host_call_on, host_call_alone, host_call_by, submit_fault, fresh, pass_of}
 use Rattle.usb_line.specs.Run.{CallRecord, Giveback, IsAnswered, IsMade, host_call_entries, call_entries, submit_of, moved_in, resent, handled_by, given_entries, handler_entries, giveback_entries}
 use Rattle.usb_line.specs.GivebackRow.{giveback_row}
 use Rattle.usb_line.specs.Outcome.{made_of}
@@ -102,7 +102,7 @@ module _ (s : Scene) (raw : are_raw s.devices ≡ true) (takes : (u : ℕ) (c : 
   round_counted : (r : Giveback) → sum_of (giveback_entries s r) ≡ bit gives + bit (is_some_of such (again_code r.outcome))
   round_counted r =
       let last : List Entry = plain_entry SERVER (End record { 0 = r.urb }) ∷ [] in
-      let handled : Option Question → List Entry = λ asking. handled_by s r.urb (moved_in s r) (resent s r) asking r.outcome in
+      let handled : Option DriverQuestion → List Entry = λ asking. handled_by s r.urb (moved_in s r) (resent s r) asking r.outcome in
       let all = counted_both q such gives t (given_entries r.urb r.status r.finished) (handler_entries s r) in
       let give = give_counted q such gives t r.urb r.status r.finished in
       let both = counted_both q such gives t (handled (question_at s r.urb)) last in

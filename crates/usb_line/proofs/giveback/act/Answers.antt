@@ -10,7 +10,7 @@ use Rattle.usb_prepare.specs.Ends.{shape_at}
 use Rattle.usb_prepare.specs.Layout.{home}
 use Rattle.usb_line.specs.declared.made.Outcome.{Outcome}
 use Rattle.usb_line.specs.declared.made.Outcome.TheVariants as outcome
-use Rattle.usb_line.specs.Prepared.{machine_of, Question, question_at}
+use Rattle.usb_line.specs.Prepared.{machine_of, DriverQuestion, question_at}
 use Rattle.usb_line.specs.Run.{moved_in, resent, rest_entry, asked_entries, handled_by}
 use Rattle.usb_line.specs.Line.{submit_answer}
 use Rattle.usb_line.specs.Back.{CanPose, CanPoseAny, IsGated, IsPosedBy, given_after}
@@ -38,7 +38,7 @@ returns-in-Some-clause-acted c = λ s h r stands can at number is posed.
     let one : c.pose.result ≡ asked.1 = got.0 ∙ (ap (λ t. submit_answer (shape_fault (shape_at s (home s a.urb)) a.transfer) (refusal t)) (other_state r.urb (given_after h r) (x ∷ []) (tt, refl, tt) a.urb pose.apart) ∙ sym gate) in (
       ap outcome.Asked one ∙ sym asked.3,
       subst (λ (o : Outcome). Stands c.pose.new.plain (machine_of s) (given_after h r ++ handled_by s r.urb (moved_in s r) (resent s r) (question_at s r.urb) o)) (sym asked.3)
-          (subst (λ (o : Option Question). Stands c.pose.new.plain (machine_of s) (given_after h r ++ x ∷ asked_entries s o asked.1)) (sym asked.2)
+          (subst (λ (o : Option DriverQuestion). Stands c.pose.new.plain (machine_of s) (given_after h r ++ x ∷ asked_entries s o asked.1)) (sym asked.2)
           (subst (λ (code : Code). Stands c.pose.new.plain (machine_of s) (given_after h r ++ x ∷ asked_entries s (Some a) code)) one
           (subst (λ (l : List Entry). Stands c.pose.new.plain (machine_of s) l) (append_assoc (given_after h r) (x ∷ []) (asked_entries s (Some a) c.pose.result)) got.1))),
     )

@@ -19,7 +19,7 @@ use Rattle.usb_prepare.specs.Prepared.{probes_of, bindings_of}
 use Rattle.usb_prepare.specs.Layout.{urb_count}
 use Rattle.usb_prepare.proofs.Facts.{bound_near, urb_once}
 use Rattle.usb_line.specs.declared.owner.Owner.{Owner}
-use Rattle.usb_line.specs.Prepared.{owner_from, owner_of, origin_of, Question, question_with, owner_question, question_at}
+use Rattle.usb_line.specs.Prepared.{owner_from, owner_of, origin_of, DriverQuestion, question_with, owner_question, question_at}
 use Rattle.usb_line.specs.Shows.{IsApt, rank, behind}
 use Rattle.usb_line.specs.Back.{CanPose, CanPoseAny}
 use Rattle.usb_line.proofs.Homes.{has_home, home_shape}
@@ -28,21 +28,21 @@ use Rattle.usb_line.proofs.OnInterface.{ctl_apt}
 use Rattle.std.proofs.lemmas.Bool.{eq-eqb}
 
 -- the driver that has the URB is a printer's, and has it for no control transfers; the question is asked with its URB for these
-pub record IsAskedBy (s : Scene) (u : ℕ) (a : Question) : Type 0 where
+pub record IsAskedBy (s : Scene) (u : ℕ) (a : DriverQuestion) : Type 0 where
   pub owner : Owner
   pub owns : owner_of s u ≡ Some owner
   pub off : is_ctl owner.role ≡ false
   pub ctl : owner.ctl ≡ Some (record { 0 = a.urb })
   pub askable : IsAskable owner.driver a.transfer
 
-with_parts : (urb : Option UrbId) (q : Option Transfer) (a : Question) → question_with urb q ≡ Some a → (urb ≡ Some (record { 0 = a.urb })) × (q ≡ Some a.transfer)
+with_parts : (urb : Option UrbId) (q : Option Transfer) (a : DriverQuestion) → question_with urb q ≡ Some a → (urb ≡ Some (record { 0 = a.urb })) × (q ≡ Some a.transfer)
 with_parts (Some urb) (Some t) a is =
-    let same : ◌≡◌ {A = Question} (record { urb = urb.0; transfer = t }) a = cc in
-    (ap (λ (x : Question). Some (record { 0 = x.urb })) same, ap (λ (x : Question). Some x.transfer) same)
+    let same : ◌≡◌ {A = DriverQuestion} (record { urb = urb.0; transfer = t }) a = cc in
+    (ap (λ (x : DriverQuestion). Some (record { 0 = x.urb })) same, ap (λ (x : DriverQuestion). Some x.transfer) same)
 with_parts None q a is = cc
 with_parts (Some urb) None a is = cc
 
-pub asked_by : (s : Scene) (u : ℕ) (a : Question) → question_at s u ≡ Some a → IsAskedBy s u a
+pub asked_by : (s : Scene) (u : ℕ) (a : DriverQuestion) → question_at s u ≡ Some a → IsAskedBy s u a
 unfolding question_at
 asked_by s u a is = go (owner_of s u) refl is
   where
@@ -88,7 +88,7 @@ some_owner board k (x ∷ bindings) v j b r at has = go (role_in v x) refl (λ i
     go None e rest = later j e at rest
     go (Some role) e rest = (_, refl)
 
-module _ (s : Scene) (good : IsWellFormed s) (u : ℕ) (a : Question) (is : question_at s u ≡ Some a) where
+module _ (s : Scene) (good : IsWellFormed s) (u : ℕ) (a : DriverQuestion) (is : question_at s u ≡ Some a) where
   abbrev by : IsAskedBy s u a
   by = asked_by s u a is
 
@@ -137,15 +137,15 @@ module _ (s : Scene) (good : IsWellFormed s) (u : ℕ) (a : Question) (is : ques
 pub can_pose_any : (s : Scene) → IsWellFormed s → (u : ℕ) → CanPoseAny s u (question_at s u)
 can_pose_any s good u = go (question_at s u) refl
   where
-    go : (o : Option Question) → question_at s u ≡ o → CanPoseAny s u o
+    go : (o : Option DriverQuestion) → question_at s u ≡ o → CanPoseAny s u o
     go None is = tt
     go (Some a) is = can_pose s good u a is
 
-asked_rank : (s : Scene) → IsWellFormed s → (u : ℕ) (a : Question) → question_at s u ≡ Some a → rank (owner_of s a.urb) ≡ 1
+asked_rank : (s : Scene) → IsWellFormed s → (u : ℕ) (a : DriverQuestion) → question_at s u ≡ Some a → rank (owner_of s a.urb) ≡ 1
 asked_rank s good u a is = let x = asking_owner s good u a is in ap rank x.3 ∙ ap (λ role. cond {A = ℕ} (is_ctl role) 1 2) x.5
 
 -- the URB of a job weighs more than the one that the question is asked with, and the question fills its buffer
-pub asking_weighs : (s : Scene) → IsWellFormed s → (u : ℕ) (a : Question) → question_at s u ≡ Some a → (rank (owner_of s u) ≡ 2) × (rank (owner_of s a.urb) ≡ 1) × (behind a.transfer ≡ 0)
+pub asking_weighs : (s : Scene) → IsWellFormed s → (u : ℕ) (a : DriverQuestion) → question_at s u ≡ Some a → (rank (owner_of s u) ≡ 2) × (rank (owner_of s a.urb) ≡ 1) × (behind a.transfer ≡ 0)
 asking_weighs s good u a is =
     let by = asked_by s u a is in (
       ap rank by.owns ∙ ap (λ b. cond {A = ℕ} b 1 2) by.off,
