@@ -53,6 +53,10 @@ main_pass s = 2 + length s.threads
 abbrev pub machine_of : Scene → Machine
 machine_of s = record { layout = layout_of s; passes = 2 + (length s.threads + 1); bottom = SERVER }
 
+-- the pass in which completion handlers run
+abbrev pub handlers_pass : Scene → ℕ
+handlers_pass s = (machine_of s).bottom
+
 abbrev pub script_in : ℕ → Option SceneDevice → Script
 script_in address None = record { items = []; last = last_at address }
 script_in address (Some device) = script_at device.script address

@@ -45,7 +45,7 @@ use Rattle.usb_prepare.specs.Below.{below}
 use Rattle.usb_prepare.specs.Ends.{shape_at}
 use Rattle.usb_prepare.specs.Layout.{urb_count, home}
 use Rattle.usb_prepare.specs.Prepared.{bindings_of}
-use Rattle.usb_line.specs.Prepared.{machine_of, owner_of, read_of, origin_of, DriverQuestion, question_at, fresh, submit_fault, again_of, host_call_of, pass_of, main_pass}
+use Rattle.usb_line.specs.Prepared.{machine_of, handlers_pass, owner_of, read_of, origin_of, DriverQuestion, question_at, fresh, submit_fault, again_of, host_call_of, pass_of, main_pass}
 use Rattle.usb_line.specs.Due.{next_due}
 
 -- all URBs of a scene
@@ -122,10 +122,16 @@ down_after b host_call.Down told.Done = true
 down_after b host_call.Up a = false
 down_after b d a = b
 
--- each call found the host as the calls before it left it
-abbrev pub AreDowns : Scene → Bool → List CallRecord → Type 0
-AreDowns s b [] = Unit {0}
-AreDowns s b (d ∷ ds) = (d.down ≡ b) × AreDowns s (down_after b (host_call_of s d.call) d.answer) ds
+-- a call that takes the host down or up found it so; the others do not ask
+abbrev pub IsFound : HostCall → Bool → Bool → Type 0
+IsFound host_call.Down down b = down ≡ b
+IsFound host_call.Up down b = down ≡ b
+IsFound _ down b = Unit {0}
+
+-- each call found the host as the calls of its thread before it left it
+abbrev pub AreFound : Scene → Bool → List CallRecord → Type 0
+AreFound s b [] = Unit {0}
+AreFound s b (d ∷ ds) = IsFound (host_call_of s d.call) d.down b × AreFound s (down_after b (host_call_of s d.call) d.answer) ds
 
 -- an episode that is over: its URB, its status, whether its transfer's result is the status, the transfer that was sent,
 -- the replies that moved it, and what the handler did
@@ -155,22 +161,22 @@ resent_as o status t = window_by (action_by o true status t) t
 abbrev pub resent : Scene → Giveback → Transfer
 resent s r = resent_as (owner_of s r.urb) r.status (moved_in s r)
 
-abbrev pub rest_entry : ℕ → Transfer → Entry
-rest_entry u t = entry SERVER (Rest record { 0 = u } t.number) Nothing (Some t)
+abbrev pub rest_entry : ℕ → ℕ → Transfer → Entry
+rest_entry p u t = entry p (Rest record { 0 = u } t.number) Nothing (Some t)
 
 -- a driver's question is submitted, where the endpoint takes it
 abbrev pub asked_entries : Scene → Option DriverQuestion → Code → List Entry
 asked_entries s None code = []
-asked_entries s (Some a) code = submit_of (shape_fault (shape_at s (home s a.urb)) a.transfer) SERVER a.urb a.transfer code
+asked_entries s (Some a) code = submit_of (shape_fault (shape_at s (home s a.urb)) a.transfer) (handlers_pass s) a.urb a.transfer code
 
 -- the handler rests the transfer, or submits it again and rests it where that is refused, or rests it and asks its driver's question
 abbrev pub handled_by : Scene → ℕ → Transfer → Transfer → Option DriverQuestion → Outcome → List Entry
-handled_by s u back again asking outcome.Rest = rest_entry u back ∷ []
-handled_by s u back again asking (outcome.Again code) = submit_entries SERVER u again code ++ (if is_zero code then [] else rest_entry u again ∷ [])
-handled_by s u back again asking (outcome.Asked code) = rest_entry u back ∷ asked_entries s asking code
+handled_by s u back again asking outcome.Rest = rest_entry (handlers_pass s) u back ∷ []
+handled_by s u back again asking (outcome.Again code) = submit_entries (handlers_pass s) u again code ++ (if is_zero code then [] else rest_entry (handlers_pass s) u again ∷ [])
+handled_by s u back again asking (outcome.Asked code) = rest_entry (handlers_pass s) u back ∷ asked_entries s asking code
 
 abbrev pub handler_entries : Scene → Giveback → List Entry
-handler_entries s r = handled_by s r.urb (moved_in s r) (resent s r) (question_at s r.urb) r.outcome ++ plain_entry SERVER (End record { 0 = r.urb }) ∷ []
+handler_entries s r = handled_by s r.urb (moved_in s r) (resent s r) (question_at s r.urb) r.outcome ++ plain_entry (handlers_pass s) (End record { 0 = r.urb }) ∷ []
 
 -- the server finishes the URB where no mark stood, and gives it back
 abbrev pub given_entries : ℕ → Code → Bool → List Entry
@@ -347,9 +353,9 @@ pub record IsRun (s : Scene) (h : List Entry) (call_records : List CallRecord) (
   -- each entry may come where it stands, and has the machine's answer
   pub legal : IsLegal (machine_of s) h
   pub over : IsOver s h
-  -- each call is one of a thread, has its answer, and found the host as it was left
+  -- each call is one of a thread and has its answer, and each thread's calls found the host as its calls before had left it
   pub told : All (IsMade s) call_records
-  pub downs : AreDowns s false call_records
+  pub downs : (i : ℕ) → i < length s.threads → AreFound s false (done_by i call_records)
   -- each thread made the calls of its script, each once and in order
   pub calls : (i : ℕ) (thread : SceneThread) → slice_get s.threads i ≡ Some thread → map (λ d. d.call) (done_by i call_records) ≡ thread.calls
   -- a thread's part of the history is the entries of its calls with their answers
