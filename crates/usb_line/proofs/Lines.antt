@@ -19,6 +19,7 @@ use Rattle.usb_prepare.specs.Layout.{urb_count}
 use Rattle.usb_line.specs.Prepared.{machine_of, pass_of, main_pass}
 use Rattle.usb_line.specs.Run.{urbs_of, Giveback, done_by, call_entries, seen_quiet, kills_of, firsts_of, IsMade, AreFound, opening, IsOver, IsFramed, IsRun}
 use Rattle.usb_line.specs.Line.{Progress, AreDowns, begun, adds, IsLineRun}
+use Rattle.usb_line.proofs.Parts.{controllers, handlers}
 use Rattle.usb_line.proofs.MayFollow.{once}
 use Rattle.usb_line.proofs.Serving.{AreFirstGiven, Serves}
 use Rattle.usb_line.proofs.Passes.{not_server, not_main}
@@ -149,7 +150,9 @@ module _ (s : Scene) (good : IsWellFormed s) (f : Progress) (run : IsLineRun s f
     calls = λ i thread at. calls_made s last.call_records (ap (map call_of) made.call_records ∙ run.all) i thread at;
     threads = λ i l. made.elsewhere (pass_of s i) (not_server s i) (not_main s i l) ∙ (goes.threads i l ∙ ap (λ ds. flat_map (call_entries s) (done_by i ds)) (sym made.call_records));
     framed = is_framed;
-    server = serves.server;
+    server = controllers s (part_of h SERVER) last.rounds serves.server;
+    handlers = handlers s (part_of h SERVER) last.rounds serves.server;
+    together = λ same. serves.server;
     others = λ p off main none. made.elsewhere p off main ∙ goes.others p off main none;
     gives = serves.gives;
     firsts = first_at last.rounds (firsts_of (machine_of s) h) serves.firsts;

@@ -11,7 +11,7 @@ use Rattle.usb_types.specs.declared.urb.Action.TheVariants as action
 use Rattle.usb_types.specs.declared.urb.Flag.TheVariants as flag
 use Rattle.usb_machine.specs.declared.entry.TheConstants.{SERVER}
 use Rattle.usb_machine.specs.declared.event.Event.{Event}
-use Rattle.usb_machine.specs.declared.event.Event.TheVariants.{Take, Finish, Give, Rest, End, Reject, Quiet}
+use Rattle.usb_machine.specs.declared.event.Event.TheVariants.{Submit, Link, Take, Finish, Give, Rest, End, Reject, Quiet}
 use Rattle.usb_machine.specs.declared.event.Answer.{Answer}
 use Rattle.usb_machine.specs.declared.event.Answer.TheVariants.{Nothing, Code as Status, Truth}
 use Rattle.usb_machine.specs.declared.transfer.Transfer.{Transfer}
@@ -270,6 +270,14 @@ is_aside (Take e) a = true
 is_aside (Finish u c) a = not (finishes a)
 is_aside _ a = false
 
+-- whether an event is one of a completion handler: it submits or rests a transfer, or ends
+abbrev pub is_handlers : Event → Bool
+is_handlers (Submit u n) = true
+is_handlers (Link u) = true
+is_handlers (Rest u n) = true
+is_handlers (End u) = true
+is_handlers _ = false
+
 -- the calls that a thread made
 abbrev pub done_by : ℕ → List CallRecord → List CallRecord
 done_by i call_records = filter (λ d. d.thread == i) call_records
@@ -361,8 +369,12 @@ pub record IsRun (s : Scene) (h : List Entry) (call_records : List CallRecord) (
   -- a thread's part of the history is the entries of its calls with their answers
   pub threads : (i : ℕ) → i < length s.threads → part_of h (pass_of s i) ≡ flat_map (call_entries s) (done_by i call_records)
   pub framed : IsFramed s h
-  -- the server takes and finds marks, and beside this it gives back and handles one URB after another
-  pub server : filter (λ x. not (is_aside x.event x.answer)) (part_of h SERVER) ≡ flat_map (giveback_entries s) rounds
+  -- the controller takes and finds marks, and beside this it gives back one URB after another
+  pub server : filter (λ x. not (is_aside x.event x.answer) && not (is_handlers x.event)) (part_of h SERVER) ≡ flat_map (λ r. given_entries r.urb r.status r.finished) rounds
+  -- handlers run in the order of the givebacks, each to its end
+  pub handlers : filter (λ x. is_handlers x.event) (part_of h (handlers_pass s)) ≡ flat_map (handler_entries s) rounds
+  -- where they run in the controller's pass, each runs right after its giveback
+  pub together : handlers_pass s ≡ SERVER → filter (λ x. not (is_aside x.event x.answer)) (part_of h SERVER) ≡ flat_map (giveback_entries s) rounds
   -- no other pass has an entry
   pub others : (p : ℕ) → p ≢ SERVER → p ≢ main_pass s → ((i : ℕ) → i < length s.threads → p ≢ pass_of s i) → part_of h p ≡ []
   -- each Give ends the episode of its giveback, and one whose transfer had replies is of a first pending URB
