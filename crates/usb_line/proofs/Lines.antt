@@ -6,6 +6,7 @@ use Rattle.std.proofs.lemmas.List.{append_cancel_left}
 use Rattle.std.proofs.lemmas.List.Elements.{filter-append}
 use mathlib.Core.Logic.{dite}
 use native.Mathlib.Decide.{ℕ_discrete}
+use Rattle.usb_machine.specs.declared.entry.TheConstants.{SERVER}
 use Rattle.usb_machine.specs.declared.entry.Entry.{Entry}
 use Rattle.usb_machine.specs.History.{Machine, home_of, state_of, line_of, pending_of}
 use Rattle.usb_machine.specs.Parts.{part_of}
@@ -19,7 +20,7 @@ use Rattle.usb_prepare.specs.Layout.{urb_count}
 use Rattle.usb_line.specs.Prepared.{machine_of, pass_of, main_pass}
 use Rattle.usb_line.specs.Run.{urbs_of, Giveback, done_by, call_entries, seen_quiet, kills_of, firsts_of, IsMade, AreFound, opening, IsOver, IsFramed, IsRun}
 use Rattle.usb_line.specs.Line.{Progress, AreDowns, begun, adds, IsLineRun}
-use Rattle.usb_line.proofs.Parts.{controllers, handlers}
+use Rattle.usb_line.proofs.Parts.{of_controller, of_handlers}
 use Rattle.usb_line.proofs.MayFollow.{once}
 use Rattle.usb_line.proofs.Serving.{AreFirstGiven, Serves}
 use Rattle.usb_line.proofs.Passes.{not_server, not_main}
@@ -150,8 +151,8 @@ module _ (s : Scene) (good : IsWellFormed s) (f : Progress) (run : IsLineRun s f
     calls = λ i thread at. calls_made s last.call_records (ap (map call_of) made.call_records ∙ run.all) i thread at;
     threads = λ i l. made.elsewhere (pass_of s i) (not_server s i) (not_main s i l) ∙ (goes.threads i l ∙ ap (λ ds. flat_map (call_entries s) (done_by i ds)) (sym made.call_records));
     framed = is_framed;
-    server = controllers s (part_of h SERVER) last.rounds serves.server;
-    handlers = handlers s (part_of h SERVER) last.rounds serves.server;
+    server = of_controller s (part_of h SERVER) last.rounds serves.server;
+    handlers = of_handlers s (part_of h SERVER) last.rounds serves.server;
     together = λ same. serves.server;
     others = λ p off main none. made.elsewhere p off main ∙ goes.others p off main none;
     gives = serves.gives;

@@ -92,8 +92,8 @@ is_no_aside (Finish u c) a is = absurd (true≢false (sym is))
 is_no_aside _ a is = refl
 
 module _ (s : Scene) (xs : List Entry) (rounds : List Giveback) (all : filter (λ x. not (is_aside x.event x.answer)) xs ≡ flat_map (giveback_entries s) rounds) where
-  pub controllers : filter (λ x. not (is_aside x.event x.answer) && not (is_handlers x.event)) xs ≡ flat_map (λ r. given_entries r.urb r.status r.finished) rounds
-  controllers = filter_and (λ x. not (is_aside x.event x.answer)) (λ x. not (is_handlers x.event)) xs
+  pub of_controller : filter (λ x. not (is_aside x.event x.answer) && not (is_handlers x.event)) xs ≡ flat_map (λ r. given_entries r.urb r.status r.finished) rounds
+  of_controller = filter_and (λ x. not (is_aside x.event x.answer)) (λ x. not (is_handlers x.event)) xs
       ∙ (ap (filter (λ x. not (is_handlers x.event))) all
       ∙ of_rounds (λ x. not (is_handlers x.event)) (giveback_entries s) (λ r. given_entries r.urb r.status r.finished) one rounds)
     where
@@ -101,8 +101,8 @@ module _ (s : Scene) (xs : List Entry) (rounds : List Giveback) (all : filter (�
       one r = filter-append (λ x. not (is_handlers x.event)) (given_entries r.urb r.status r.finished) (handler_entries s r)
           ∙ ((λ i. all_given r.urb r.status r.finished i ++ drops (handler_entries s r) (handle s r) i) ∙ append-nil (given_entries r.urb r.status r.finished))
 
-  pub handlers : filter (λ x. is_handlers x.event) xs ≡ flat_map (handler_entries s) rounds
-  handlers = filter_within (λ x. not (is_aside x.event x.answer)) (λ x. is_handlers x.event) (λ x is. is_no_aside x.event x.answer is) xs
+  pub of_handlers : filter (λ x. is_handlers x.event) xs ≡ flat_map (handler_entries s) rounds
+  of_handlers = filter_within (λ x. not (is_aside x.event x.answer)) (λ x. is_handlers x.event) (λ x is. is_no_aside x.event x.answer is) xs
       ∙ (ap (filter (λ x. is_handlers x.event)) all
       ∙ of_rounds (λ x. is_handlers x.event) (giveback_entries s) (handler_entries s) one rounds)
     where

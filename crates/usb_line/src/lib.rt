@@ -31,7 +31,7 @@ pub use laws::{
     a_scene_has_one_run_in_line_order,
 };
 pub use line::{LineOutcome, run_line};
-pub use made::{CallAnswer, CallMade, HostCall, GivebackRow, Outcome};
+pub use made::{CallAnswer, CallMade, GivebackRow, HostCall, Outcome};
 pub use run::{EndReceived, Received};
 pub use run_laws::{
     a_drivers_windows_follow_one_another, a_printers_windows_are_jobs,
