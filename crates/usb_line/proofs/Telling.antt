@@ -16,6 +16,7 @@ use Rattle.usb_scene.specs.declared.scene.Scene.{Scene}
 use Rattle.usb_line.specs.declared.run.EndRow.{EndRow}
 use Rattle.usb_line.specs.declared.run.EndReceived.{EndReceived}
 use Rattle.usb_line.specs.declared.run.LineRun.{LineRun}
+use Rattle.usb_line.specs.declared.line.LineOutcome.{LineOutcome}
 use Rattle.usb_prepare.specs.Ends.{ends_of}
 use Rattle.usb_prepare.specs.Below.{below}
 use Rattle.usb_prepare.specs.Prepared.{bindings_of}
@@ -52,6 +53,10 @@ ends_told s f run shows =
     all_by_place (end_of s f.rounds) run.ends.items
     (λ e x at. (let is = shows.each_end e x at in (λ j. record { shape = is.is j; received = record { count = is.acked.count j; first = is.acked.first j } })))
     ∙ ap (λ n. map (end_of s f.rounds) (below n)) shows.all_ends
+
+-- outcomes with the same parts are the same
+pub same_outcome : (o p : LineOutcome) → o.found ≡ p.found → o.board ≡ p.board → o.made ≡ p.made → o.given ≡ p.given → o.told ≡ p.told → o.ends ≡ p.ends → o ≡ p
+same_outcome o p found board made given told ends = λ i. record { found = found i; board = board i; made = made i; given = given i; told = told i; ends = ends i }
 
 -- what a core reports, whatever it has seen
 abbrev pub Tells : Core → Told → Type 0
