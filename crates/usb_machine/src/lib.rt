@@ -20,6 +20,7 @@ pub use event::{Answer, Event};
 pub use fault::shape_fault;
 pub use layout::{EndKind, Layout, Shape};
 pub use plain::Plain;
+pub use queues::room_of_each;
 pub use replays::{Step, replay};
 pub use state::{Flags, Mark, UrbState};
 pub use transfer::Transfer;
