@@ -24,8 +24,8 @@ impl Transfer {
         self.buf.bytes().len() as u32 - (self.from + self.len)
     }
 
-    /// What becomes of a read that a driver keeps, by the status it came back with: after a success, EPROTO and EOVERFLOW
-    /// it is submitted again with its whole buffer, and else it rests.
+    /// What a driver does with a read that it keeps, by the status it came back with: after a success, EPROTO and EOVERFLOW
+    /// it submits it again with its whole buffer, and else it rests it.
     pub fn read_again(&self, status: Code) -> Action
         requires { length self.now.buf < 2 ^ 32 }
         ensures { result ≡ read_again status self.now }
