@@ -9,7 +9,7 @@ use Rattle.usb_bind.specs.declared.bound.Bound.{Bound}
 use Rattle.usb_class.specs.declared.class_core.Core.{Core}
 use Rattle.usb_class.specs.declared.class_core.Told.{Told}
 use Rattle.usb_class.specs.Core.{IsCore}
-use Rattle.usb_class.specs.Done.{Done}
+use Rattle.usb_machine.specs.Completion.{Completion}
 use Rattle.usb_class.specs.Origin.{Origin}
 use Rattle.usb_class.specs.Told.{told_of}
 use Rattle.usb_scene.specs.declared.scene.Scene.{Scene}
@@ -60,7 +60,7 @@ same_outcome o p found board made given told ends = λ i. record { found = found
 
 -- what a core reports, whatever it has seen
 abbrev pub Tells : Core → Told → Type 0
-Tells core t = (driver : Driver) (o : Origin) (done : List Done) → IsCore driver o done core → t ≡ told_of driver o done
+Tells core t = (driver : Driver) (o : Origin) (done : List Completion) → IsCore driver o done core → t ≡ told_of driver o done
 
 pub record AreTold (cores : List Core) (told : List Told) : Type 0 where
   pub count : length told ≡ length cores

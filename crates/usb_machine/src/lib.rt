@@ -2,6 +2,7 @@
 #![tactic(auto)]
 
 mod change;
+mod completion;
 mod entry;
 mod event;
 mod fault;
