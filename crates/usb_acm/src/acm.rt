@@ -145,7 +145,7 @@ impl Acm {
         if moved.is_empty() {
             return Ok(());
         }
-        let bytes = copied(self.alloc, moved)?;
+        let bytes = Buf::copy(self.alloc, moved)?;
         self.tell(Event::Rx { bytes })
     }
 
@@ -167,7 +167,7 @@ impl Acm {
         if !sets_coding(packet) {
             return Ok(());
         }
-        let bytes = copied(self.alloc, moved)?;
+        let bytes = Buf::copy(self.alloc, moved)?;
         self.tell(Event::Coding { bytes })
     }
 
@@ -180,15 +180,6 @@ impl Acm {
             Ok(()) => Ok(()),
             Err(_) => Err(Memory),
         }
-    }
-}
-
-fn copied(alloc: Global, bytes: &[u8]) -> Result<Buf, Memory>
-    ensures { IfOk result (λ buf. buf ≡ bytes.now) }
-{
-    match bytes.to_vec(alloc) {
-        Ok(copy) => Ok(Buf::of(copy)),
-        Err(_) => Err(Memory),
     }
 }
 

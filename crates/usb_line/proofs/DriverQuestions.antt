@@ -49,7 +49,7 @@ use Rattle.usb_line.specs.Line.{submit_answer, outcome_by}
 use Rattle.usb_line.specs.Shows.{ShowsCores}
 use Rattle.usb_line.specs.Back.{Noted, CanAsk, CanPoseQuestion, CanSettle, GaveQuestion, QuestionOf, QuestionWith, QuestionBy, Settled, IsPosedBy, ArePosed}
 use Rattle.usb_line.proofs.Owners.{owner_bound}
-use Rattle.usb_line.proofs.Lookups.{each_set}
+use Rattle.usb_device.proofs.Lookups.{each_set}
 
 -- the cores have seen so much each, and their questions are out or not
 pub record HasCores (s : Scene) (done : ℕ → List Completion) (outs : ℕ → Bool) (cores : List Core) : Type 0 where

@@ -42,7 +42,8 @@ use Rattle.usb_line.proofs.Questions.{control_moved}
 use Rattle.usb_line.proofs.Asked.{asked_first, asked_same}
 use Rattle.usb_line.proofs.Turns.{outcome_gated, clear_mark}
 use Rattle.usb_line.proofs.Backs.{asked_taken, asked_others}
-use Rattle.usb_line.proofs.Lookups.{set_read, set_twice, each_set}
+use Rattle.usb_device.proofs.Lookups.{each_set}
+use Rattle.usb_line.proofs.Lookups.{set_read, set_twice}
 use Rattle.usb_line.proofs.Pendings.{IsHeld, held_transfer}
 use Rattle.usb_line.proofs.Chained.{goes}
 use Rattle.usb_line.proofs.Devices.{replies_due, devices_asked}

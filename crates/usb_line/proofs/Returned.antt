@@ -47,7 +47,8 @@ use Rattle.usb_line.proofs.DriverQuestions.{IsQuestionPosed, IsSeen, noted_actio
 use Rattle.usb_line.proofs.Resending.{resent_action, resent_apt}
 use Rattle.usb_line.proofs.Backs.{again_by, urb_own, urb_else, urb_posed, end_own, shows_back}
 use Rattle.usb_line.proofs.Falling.{all_left, falls_own, falls_resting, falls_spent, falls_behind, falls_asked, again_narrows, job_narrows}
-use Rattle.usb_line.proofs.Lookups.{each_set, looked_up, set_read, set_twice}
+use Rattle.usb_device.proofs.Lookups.{each_set, looked_up}
+use Rattle.usb_line.proofs.Lookups.{set_read, set_twice}
 
 more_left : (a b : ℕ) → nat_lt b a ≡ nat_lt 0 (a - b)
 more_left a b = grind (arith, nat_tests)
