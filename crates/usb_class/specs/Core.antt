@@ -3,9 +3,9 @@ use Rattle.std.specs.Prelude.{◌≡◌, Bool, true, false, List, map}
 use Rattle.usb_types.specs.declared.urb.Role.{Role}
 use Rattle.usb_bind.specs.declared.row.Driver.{Driver}
 use Rattle.usb_bind.specs.declared.row.Driver.TheVariants.{Keyboard, Acm, Printer}
-use Rattle.usb_hid.specs.Keyboard.{IsAfter, IsOfKeyboard}
-use Rattle.usb_acm.specs.Acm.{IsAfter as PortStands, IsOfAcm}
-use Rattle.usb_printer.specs.Printer.{PrinterState, IsAfter as PrinterStands, IsOfPrinter}
+use Rattle.usb_hid.specs.Keyboard.{IsAfter as IsKeyboardAfter, IsOfKeyboard}
+use Rattle.usb_acm.specs.Acm.{IsAfter as IsAcmAfter, IsOfAcm}
+use Rattle.usb_printer.specs.Printer.{PrinterState, IsAfter as IsPrinterAfter, IsOfPrinter}
 use Rattle.usb_printer.specs.Requests.{question_of}
 use Rattle.usb_machine.specs.declared.transfer.Transfer.{Transfer}
 use Rattle.usb_class.specs.declared.class_core.Core.{Core}
@@ -18,12 +18,12 @@ use Rattle.usb_class.specs.Told.{heard, port_heard, printer_heard}
 pub record IsPrinter (o : Origin) (done : List Done) (kept : PrinterState) : Type 0 where
   pub number : kept.number ≡ o.number
   pub interface : kept.interface ≡ o.interface
-  pub stands : PrinterStands kept o.id (map printer_heard done)
+  pub stands : IsPrinterAfter kept o.id (map printer_heard done)
 
 -- the core is this driver's, began so, and has seen these completions and no other
 abbrev pub IsCore : Driver → Origin → List Done → Core → Type 0
-IsCore Keyboard o done (KeyboardCore kept) = Stands kept (map heard done)
-IsCore Acm o done (AcmCore kept) = PortStands kept (map port_heard done)
+IsCore Keyboard o done (KeyboardCore kept) = IsKeyboardAfter kept (map heard done)
+IsCore Acm o done (AcmCore kept) = IsAcmAfter kept (map port_heard done)
 IsCore Printer o done (PrinterCore kept) = IsPrinter o done kept
 IsCore driver o done core = ⊥
 
