@@ -1,4 +1,4 @@
--- No URB stands twice among the bindings.
+-- No URB occurs twice among the bindings.
 use Rattle.std.proofs.Common.{◌≡◌, ◌≢◌, ℕ, ◌<◌, Bool, true, false, List, [], ◌∷◌, ◌++◌, length, get_or, set, Option, Some, None, Ok, Err, Result, refl, sym, ap, ◌∙◌, subst, append_assoc}
 use Rattle.std.specs.Prelude.{◌==◌, is_none, is_some, option_map, All, AllPairs}
 use Rattle.std.specs.Option.{option_map_or}
@@ -18,7 +18,7 @@ use Rattle.usb_bind.specs.Laws.{numbers_in, numbers_of, Agrees}
 use Rattle.usb_bind.proofs.Spare.{out_not_spare, spare_below}
 use Rattle.usb_bind.proofs.Probing.{plan_of, refused}
 
--- these numbers are out, and none stands twice
+-- these numbers are out, and none occurs twice
 record AreOut (numbers : List ℕ) (pool : Homes) : Type 0 where
   out : All (λ n. is_out pool n ≡ true) numbers
   apart : AllPairs (λ m n. m ≢ n) numbers

@@ -33,7 +33,7 @@ pub still_lacks : (ends : List End) (e : End) (address : ℕ) → has_end ends a
     → (joins ends e ≡ true → (e.address == address) ≡ false) → has_end (joined ends e) address ≡ false
 still_lacks ends e address h other = still_lacks_by ends e address (joins ends e) h other
 
--- endpoints that join only stand after the others
+-- endpoints that join only come after the others
 abbrev joined_rest : (ends : List End) (e : End) (t : Bool) → List End → List End
 joined_rest ends e true rest = e ∷ rest
 joined_rest ends e false rest = rest
@@ -121,7 +121,7 @@ ends_opened alts a new =
     ∙ ap (fold joined []) (flat_map-append (λ (b : Alt). b.ends) alts (a ∷ []) ∙ ap (λ t. ends_of alts ++ t) (append-nil a.ends))
     ∙ fold-append joined [] (ends_of alts) a.ends
 
--- interfaces that open only stand after the others
+-- interfaces that open only come after the others
 abbrev opened_rest : List Alt → Alt → Bool → List Alt → List Alt
 opened_rest alts a true rest = a ∷ rest
 opened_rest alts a false rest = rest

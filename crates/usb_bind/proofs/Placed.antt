@@ -27,7 +27,7 @@ or_left : (a b : Bool) → a ≡ true → (a || b) ≡ true
 or_left true b h = refl
 or_left false b h = absurd cc
 
--- what is found passes the test, and its address stands there
+-- what is found passes the test, and its address is there
 record Finds (test : End → Bool) (ends : List End) (e : End) : Type 0 where
   passes : test e ≡ true
   stands : has_end ends e.address ≡ true
@@ -48,7 +48,7 @@ finds : (test : End → Bool) (ends : List End) (e : End) → find test ends ≡
 finds test [] e is = absurd cc
 finds test (f ∷ ends) e is = found_by test f ends e (test f) refl is (finds test ends e)
 
--- the endpoints of an interface that is found stand among those of all
+-- the endpoints of an interface that is found are among those of all
 alt_by : (test : Alt → Bool) (b : Alt) (alts : List Alt) (a : Alt) (address : ℕ) (t : Bool) → cond t (Some b) (find test alts) ≡ Some a
     → has_end a.ends address ≡ true → (find test alts ≡ Some a → has_end (ends_of alts) address ≡ true) → has_end (b.ends ++ ends_of alts) address ≡ true
 alt_by test b alts a address true is h rest =
@@ -64,7 +64,7 @@ alt_ends : (test : Alt → Bool) (alts : List Alt) (a : Alt) (address : ℕ) →
 alt_ends test [] a address is h = absurd cc
 alt_ends test (b ∷ alts) a address is h = alt_by test b alts a address (test b) is h (λ is. alt_ends test alts a address is h)
 
--- an address that stands stays, and each that isn't 00 comes to stand
+-- an address that is there stays, and each that isn't 00 is added
 stays_by : (ends : List End) (e : End) (address : ℕ) (t : Bool) → has_end ends address ≡ true → has_end (cond t (ends ++ e ∷ []) ends) address ≡ true
 stays_by ends e address true h = end_more ends e address ∙ or_left (has_end ends address) (e.address == address || false) h
 stays_by ends e address false h = h
@@ -98,7 +98,7 @@ comes [] ends address nonzero h = absurd cc
 comes (e ∷ more) ends address nonzero h =
     comes_or e more ends address (e.address == address) refl nonzero h (comes more (joined ends e) address nonzero)
 
--- an address that stands has a place
+-- an address that is there has a place
 below_by : (e : End) (ends : List End) (address : ℕ) (t : Bool) → (t || has_end ends address) ≡ true
     → (has_end ends address ≡ true → position_or_len (λ (e : End). e.address == address) ends < length ends)
     → cond (not t) (1 + position_or_len (λ (e : End). e.address == address) ends) 0 < suc (length ends)

@@ -1,4 +1,4 @@
--- What a probe that binds says of the board.
+-- What holds of the board where a probe binds.
 use Rattle.std.proofs.Common.{◌≡◌, ◌≤◌, ℕ, Bool, true, false, List, length, Option, Some, None, Ok, Err, Result, refl, ap, ◌∙◌}
 use Rattle.std.specs.Prelude.{nat_lt, option_map, ok_or, slice_index}
 use Rattle.std.proofs.lemmas.Bool.{ltb-false}

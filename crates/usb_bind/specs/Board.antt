@@ -54,7 +54,7 @@ abbrev pub claim_of : Driver → ℕ → ℕ → Bound
 claim_of by device interface =
     record { driver = by; device = device; interface = interface; other = None; urbs = no_urbs }
 
--- what is against a claim of an interface that is there or isn't, by who has it
+-- the fault of a claim of an interface that is there or isn't, by the driver that has it
 abbrev pub fault_where : Bool → Option Driver → Option ClaimFault
 fault_where false holder = Some Missing
 fault_where true holder = option_map Busy holder

@@ -27,7 +27,7 @@ interfaces_of config = fold with_interface [] config.alts
 abbrev pub interface_at : ConfigTree → ℕ → Option Alt
 interface_at config number = find (λ (a : Alt). a.setting == 0 && a.number == number) config.alts
 
--- an endpoint joins those before it, unless its address is 00 or stands among them
+-- an endpoint joins those before it, unless its address is 00 or one of theirs
 abbrev pub joins : List End → End → Bool
 joins ends e = not (e.address == 0 || has_end ends e.address)
 

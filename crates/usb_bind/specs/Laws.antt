@@ -1,4 +1,4 @@
--- Words in which the laws of matching, pool and board are said.
+-- Definitions that the laws of matching, pool and board use.
 use Rattle.std.specs.Prelude.{◌≡◌, ◌≢◌, ◌≤◌, ℕ, true, List, length, All, AllPairs, Option, Some, None, slice_index, filter_map, flat_map, option_map}
 use Rattle.usb_types.specs.declared.urb.UrbId.{UrbId}
 use Rattle.usb_desc.specs.declared.tree.Alt.{Alt}
@@ -12,7 +12,7 @@ use Rattle.usb_bind.specs.Pool.{Homes, spare_in, is_out}
 use Rattle.usb_bind.specs.Board.{BoardValue, attached_at, holder_of}
 use Rattle.usb_bind.specs.Probe.{other_holder, homes_of, all_next}
 
--- what stands where a probe binds an interface: it is there and free, the first row that matches has this driver, nothing
+-- what holds where a probe binds an interface: it is there and free, the first row that matches has this driver, nothing
 -- that the driver needs is missing, the other interface is free too, and enough URBs are spare
 pub record Binds (board : BoardValue) (pool : Homes) (rows : List IdRow) (device interface : ℕ) (b : Bound) : Type 0 where
   pub attached : Attached
@@ -40,7 +40,7 @@ numbers_in slots = filter_map (option_map (λ (u : UrbId). u.0)) slots
 abbrev pub numbers_of : List Bound → List ℕ
 numbers_of bindings = flat_map (λ (b : Bound). numbers_in b.urbs) bindings
 
--- each URB of a binding is out in the pool, and no URB stands twice
+-- each URB of a binding is out in the pool, and no URB occurs twice
 pub record Agrees (bindings : List Bound) (pool : Homes) : Type 0 where
   pub out : All (λ n. is_out pool n ≡ true) (numbers_of bindings)
   pub apart : AllPairs (λ m n. m ≢ n) (numbers_of bindings)

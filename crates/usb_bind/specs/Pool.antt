@@ -41,7 +41,7 @@ up_to_last pool = take (length pool - suffix_len is_none pool) pool
 abbrev pub is_spare : Homes → ℕ → Bool
 is_spare pool n = is_none (slice_index_or pool n (Some 0))
 
--- how often a number stands in a heap
+-- how often a number occurs in a heap
 abbrev pub times : ℕ → List (Reverse ℕ) → ℕ
 times n heap = count_by (λ (r : Reverse ℕ). r.0 == n) heap
 

@@ -21,7 +21,7 @@ abbrev pub then_by : {X Y : Type 0} → (X → Result Y ProbeFault) → Result X
 then_by next (Ok x) = next x
 then_by next (Err fault) = Err fault
 
--- what comes where nothing is against it
+-- the result, where there is no fault before it
 abbrev pub unless : {X : Type 0} → Option ProbeFault → Result X ProbeFault → Result X ProbeFault
 unless (Some fault) others = Err fault
 unless None others = others

@@ -5,7 +5,7 @@ ghost use Rattle.usb_bind.specs.Board.{has_interface, is_binding_of, urb_of_role
 use crate::row::Driver;
 use usb_types::{Role, UrbId};
 
-/// A driver that has an interface, and for ACM the data interface too. The URBs stand in this order: of a keyboard
+/// A driver that has an interface, and for ACM the data interface too. The URBs are in this order: of a keyboard
 /// `In`, `Ctl`; of ACM `Note`, `Read0`, `Read1`, `Write`, `Ctl`; of a printer `Write`, `Ctl`.
 #[derive(Clone, Copy)]
 pub struct Bound {

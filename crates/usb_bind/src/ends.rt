@@ -110,7 +110,7 @@ pub fn push_shapes(shapes: &mut List<Shape>, device: u32, config: &ConfigTree) -
     Ok(())
 }
 
-// An address's place among these endpoints and those that were met before, which have it not.
+// An address's place among these endpoints and those that were met before, none of which has it.
 fn place_among(ends: &[End], met: &mut Met, address: u8) -> Option<u32>
     ensures place { (so_far : List End) → KnowsEnds met.old so_far → has_end so_far address ≡ false
         → Places address (fold joined so_far ends.now) met.new result }

@@ -1,4 +1,4 @@
-//! The flags of a row, which say what it asks for. Those of `INT` speak of an interface.
+//! The flags of a row: what it asks for. Those of `INT` ask for a field of the interface.
 
 pub const VENDOR: u16 = 0x001;
 
@@ -24,7 +24,7 @@ pub const INT_PROTOCOL: u16 = 0x200;
 
 pub const INT_NUMBER: u16 = 0x400;
 
-/// All that speak of an interface.
+/// All that ask for a field of the interface.
 pub(crate) const ANY_INT: u16 = INT_CLASS | INT_SUBCLASS | INT_PROTOCOL | INT_NUMBER;
 
 /// All.

@@ -20,7 +20,7 @@ ghost use Rattle.usb_bind.specs.Board.{BoardValue, AreThere, attached_at, holder
 ghost use Rattle.usb_bind.specs.Probe.{probed, board_after, pool_after};
 ghost use Rattle.usb_bind.specs.Laws.{Binds, Agrees};
 
-/// What stands where a probe binds an interface.
+/// What holds where a probe binds an interface.
 pub fn what_a_probe_binds()
     ensures { (board : BoardValue) (pool : Homes) (rows : List IdRow) (device interface : ℕ) (b : Bound)
         → probed board pool rows device interface ≡ Ok b → Binds board pool rows device interface b }
@@ -41,7 +41,7 @@ pub fn a_cancel_undoes_a_probe()
         × (released_all (pool_after board pool rows device interface) b.urbs ≡ pool) }
 {}
 
-/// No URB stands twice among the bindings, and each is out: a probe keeps it so.
+/// No URB occurs twice among the bindings, and each is out: a probe keeps it so.
 pub fn a_probe_keeps_urbs_apart()
     ensures { (board : BoardValue) (pool : Homes) (rows : List IdRow) (device interface : ℕ)
         → Agrees board.bindings pool
@@ -60,7 +60,7 @@ pub fn an_interface_is_found_by_its_number()
         → interface_at config number ≡ find (λ (a : Alt). a.number == number) (interfaces_of config) }
 {}
 
-/// No address stands twice among the endpoints of the host after endpoint 00, and 00 does not stand there.
+/// No address occurs twice among the endpoints of the host after endpoint 00, and 00 is not among them.
 pub fn an_address_stands_once()
     ensures { (config : ConfigTree)
         → AllPairs (λ (e f : End). e.address ≢ f.address) (host_ends config) × All (λ (e : End). e.address ≢ 0) (host_ends config) }

@@ -19,7 +19,7 @@ pub struct IdRow {
     pub flags: u16,
     pub vendor: u16,
     pub product: u16,
-    /// The least release, in binary decimal as it stands.
+    /// The least release, a binary-coded decimal as in the descriptor.
     pub lo: u16,
     /// The greatest release.
     pub hi: u16,

@@ -19,7 +19,7 @@ fn is_union(descriptor: &[u8]) -> bool
         && descriptor[2] == UNION
 }
 
-// What stands after the descriptor at the head, of which each byte belongs to one.
+// What follows the first descriptor. Each byte belongs to a descriptor.
 #[tactic(auto, using(crate::proofs::UnionWalk::drop_all))]
 fn behind(bytes: &[u8]) -> &[u8]
     requires { 0 < length bytes.now }

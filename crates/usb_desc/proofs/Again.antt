@@ -65,7 +65,7 @@ tree_nothing t = tree_nothing_at t t.alts
 
 -- ---- one descriptor
 
--- a descriptor that says its length, which is enough
+-- a descriptor that begins with its length, which is enough
 pub record IsPiece (d : List ℕ) : Type 0 where
   pub header : 2 ≤ length d
   pub said : get_or d 0 0 ≡ length d

@@ -1,4 +1,4 @@
--- A descriptor against which there is nothing keeps a configuration good.
+-- A descriptor without a fault keeps a configuration good.
 use Rattle.std.proofs.Common.{◌≡◌, ◌≢◌, ℕ, suc, ◌-◌, ◌<◌, ◌≤◌, Bool, true, false, cond, eqb, ltb, List, [], ◌∷◌, ◌++◌, length, get_or, Option, Some, None, refl, sym, ap, subst, ◌∙◌, arith}
 use Rattle.std.specs.Prelude.{slice_get, ◌||◌}
 use Rattle.std.specs.List.{AllByRecursion}
@@ -95,7 +95,7 @@ is_free : (last : Option Alt) (at address : ℕ) → end_fault last at address �
 is_free None at address e = absurd cc
 is_free (Some a) at address e = free_at at address a (has_end a.ends address) (ltb (length a.ends) 30) refl refl e
 
--- what was added keeps what was good, and stands after the rest
+-- what was added keeps what was good, and comes after the rest
 pub record IsKept (old new : ConfigTree) (d : List ℕ) : Type 0 where
   pub sound : IsSound old → IsSound new
   pub behind : (n : ℕ) → written n new ≡ written n old ++ d

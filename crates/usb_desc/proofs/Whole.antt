@@ -72,7 +72,7 @@ each_middle : {X : Type 0} (P : X → Type 0) (xs : List X) (x : X) (ys : List X
 each_middle P [] x ys h = h.0
 each_middle P (z ∷ xs) x ys h = each_middle P xs x ys h.1
 
--- an address that stands once is new after those before it
+-- an address that occurs once is new after those before it
 is_new : (ends : List End) (e : End) (others : List End) → AreDistinct (ends ++ e ∷ others) → has_end ends e.address ≡ false
 is_new [] e others h = refl
 is_new (f ∷ ends) e others h =

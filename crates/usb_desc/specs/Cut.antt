@@ -7,7 +7,7 @@ use Rattle.usb_desc.specs.declared.fault.DescFault.TheVariants.{Short, BadLength
 abbrev pub standard_length : ℕ → ℕ
 standard_length kind = if kind == 1 then 18 else if kind == 2 then 9 else if kind == 4 then 9 else if kind == 5 then 7 else 2
 
--- the first descriptor and the bytes after it; at is its place, and short what is reported where bytes lack
+-- the first descriptor and the bytes after it; at is its place, and short what is reported where bytes are missing
 abbrev pub cut : ℕ → ℕ → List ℕ → Result (List ℕ × List ℕ) DescFault
 cut short at bytes =
     if nat_lt (length bytes) 2 then Err (Short short)

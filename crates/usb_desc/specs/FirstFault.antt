@@ -13,7 +13,7 @@ BeginsWrong bytes fault =
     (cut (length bytes) 0 bytes ≡ Err fault)
     ⊎ ((d : List ℕ) × (rest : List ℕ) × (cut (length bytes) 0 bytes ≡ Ok (d, rest)) × (begun (length bytes) d ≡ Err fault))
 
--- the bytes before some place are a sound configuration so far, and what stands there is against it
+-- the bytes before some place are a sound configuration so far, and the descriptor at that place has this fault
 pub record GoesWrong (bytes : List ℕ) (fault : DescFault) : Type 0 where
   pub tree : ConfigTree
   pub behind : List ℕ

@@ -1,4 +1,4 @@
--- The configurations that bytes can say.
+-- The configurations that bytes can spell.
 use Rattle.std.specs.Prelude.{◌≡◌, ◌≢◌, ℕ, ◌<◌, ◌≤◌, ◌^◌, List, [], ◌∷◌, length, slice_index}
 use Rattle.std.specs.List.{AllByRecursion, concat}
 use Rattle.usb_desc.specs.declared.tree.ConfigTree.{ConfigTree}
@@ -27,7 +27,7 @@ pub record AreExtras (bytes : List ℕ) : Type 0 where
 abbrev pub IsGoodEnd : End → Type 0
 IsGoodEnd e = AreExtras e.extras
 
--- no address stands twice
+-- no address occurs twice
 abbrev pub AreDistinct : List End → Type 0
 AreDistinct [] = Unit {0}
 AreDistinct (e ∷ ends) = AllByRecursion (λ (f : End). f.address ≢ e.address) ends × AreDistinct ends
@@ -38,7 +38,7 @@ pub record IsGoodAlt (a : Alt) : Type 0 where
   pub few : length a.ends ≤ 30
   pub distinct : AreDistinct a.ends
 
--- what of it holds from the first descriptor on
+-- what already holds of it while its descriptors are being read
 pub record IsSound (c : ConfigTree) : Type 0 where
   pub extras : AreExtras c.extras
   pub alts : AllByRecursion IsGoodAlt c.alts

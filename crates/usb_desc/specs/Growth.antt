@@ -1,4 +1,4 @@
--- What a descriptor after the first one adds to a configuration, and what may be against it.
+-- What a descriptor after the first one adds to a configuration, and the faults that it may have.
 use Rattle.std.specs.Prelude.{ℕ, ◌+◌, ◌*◌, ◌==◌, nat_lt, Bool, if◌then◌else◌, List, [], ◌∷◌, ◌++◌, length, drop, slice_index, slice_get, ◌-◌, Option, Some, None}
 use Rattle.std.specs.List.{list_any}
 use Rattle.usb_desc.specs.declared.tree.ConfigTree.{ConfigTree}

@@ -6,7 +6,7 @@ use Rattle.usb_desc.specs.declared.fault.DescFault.TheVariants.{BadType, TotalLe
 use Rattle.usb_desc.specs.Cut.{cut}
 use Rattle.usb_desc.specs.Growth.{kind_of, word_at, tree_with, piece_fault}
 
--- a value against which there is no fault
+-- a value, where there is no fault
 abbrev pub unless : {X : Type 0} → X → Option DescFault → Result X DescFault
 unless x None = Ok x
 unless x (Some fault) = Err fault
@@ -16,15 +16,15 @@ abbrev pub then_on : {X Y : Type 0} → (X → Result Y DescFault) → Result X 
 then_on others (Ok x) = others x
 then_on others (Err fault) = Err fault
 
--- what a whole descriptor makes of the configuration so far
+-- the configuration so far with one whole descriptor more, or the fault of that
 abbrev pub grown : ConfigTree → ℕ → List ℕ → Result ConfigTree DescFault
 grown tree at d = unless (tree_with tree d) (piece_fault tree at d)
 
--- the descriptor at the head of these bytes, judged and added
+-- the first descriptor of these bytes, checked and added
 abbrev pub headed : ConfigTree → ℕ → List ℕ → Result ConfigTree DescFault
 headed tree at bytes = then_on (λ d. grown tree at d.0) (cut at at bytes)
 
--- what the bytes at the end of so many make of it, of which the first ones belong to a descriptor that was read
+-- the configuration after the last bytes of so many, of which the first ones belong to a descriptor that was read
 abbrev pub read_on : ℕ → ConfigTree → ℕ → List ℕ → Result ConfigTree DescFault
 read_on total tree inside [] = Ok tree
 read_on total tree (suc inside) (b ∷ bytes) = read_on total tree inside bytes
@@ -51,7 +51,7 @@ begun total d =
     then (if word_at d 2 3 == total then Ok (config_of d) else Err (TotalLength (word_at d 2 3) total))
     else Err (BadType 0)
 
--- what all the bytes say, or their first fault
+-- the configuration that all the bytes are, or their first fault
 abbrev pub tree_of : List ℕ → Result ConfigTree DescFault
 tree_of bytes =
     then_on (λ first. then_on (λ tree. read_on (length bytes) tree 0 first.1) (begun (length bytes) first.0)) (cut (length bytes) 0 bytes)

@@ -21,11 +21,11 @@ alt_bytes a =
     (9 + length a.tail) ∷ 4 ∷ a.number ∷ a.setting ∷ a.said ∷ a.class ∷ a.subclass ∷ a.protocol ∷ a.text ∷ a.tail ++ a.extras
     ++ flat_map end_bytes a.ends
 
--- what stands after the configuration's own descriptor
+-- what follows the configuration's own descriptor
 abbrev pub parts : ConfigTree → List ℕ
 parts c = c.extras ++ flat_map alt_bytes c.alts
 
--- the configuration where its total length is said to be n
+-- the bytes of the configuration, with n as its total length
 abbrev pub written : ℕ → ConfigTree → List ℕ
 written n c =
     (9 + length c.tail) ∷ 2 ∷ low n ∷ high n ∷ c.said ∷ c.value ∷ c.text ∷ c.attributes ∷ c.power ∷ c.tail ++ parts c
@@ -34,6 +34,6 @@ written n c =
 abbrev pub size_of : ConfigTree → ℕ
 size_of c = 9 + length c.tail + length (parts c)
 
--- its bytes, which say how many they are
+-- its bytes, with their number as the total length
 abbrev pub spell : ConfigTree → List ℕ
 spell c = written (size_of c) c

@@ -5,7 +5,7 @@ ghost use Rattle.usb_desc.specs.Cut.{standard_length, cut, Gives};
 use crate::fault::DescFault;
 use crate::kind::standard_length;
 
-/// The first descriptor and the bytes after it. `at` is its place, and `short` what is reported where bytes lack.
+/// The first descriptor and the bytes after it. `at` is its place, and `short` what is reported where bytes are missing.
 pub fn split_first(bytes: &[u8], short: usize, at: usize) -> Result<(&[u8], &[u8]), DescFault>
     ensures exact { Gives (λ x. (x.0.now, x.1.now)) result (cut short at bytes.now) }
     ensures header { IfOk result (λ x. 2 ≤ length x.0.now) }

@@ -7,7 +7,7 @@ use crate::fault::DescFault;
 use crate::kind::{DEVICE, DEVICE_LEN};
 use crate::numbers::{high, low, word};
 
-/// A device. Versions and releases are in binary decimal, as they stand.
+/// A device. Versions and releases are binary-coded decimals, as in the descriptor.
 #[derive(Clone, Copy, Debug, PartialEq)]
 pub struct DeviceDesc {
     pub usb: u16,
@@ -19,7 +19,7 @@ pub struct DeviceDesc {
     pub vendor: u16,
     pub product: u16,
     pub release: u16,
-    /// The numbers of the strings that name the maker, the product and the device.
+    /// The indices of the strings of the manufacturer, the product and the serial number.
     pub texts: [u8; 3],
     /// How many configurations it has.
     pub configs: u8,

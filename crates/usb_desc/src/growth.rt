@@ -1,4 +1,4 @@
-//! What a descriptor adds to a configuration, and what may be against it.
+//! What a descriptor adds to a configuration, and the faults that it may have.
 ghost use Rattle.std.specs.Prelude.{◌≡◌, ◌+◌, ◌*◌, ◌≤◌, ◌<◌, length, slice_index, drop, IfOk, OnOk};
 ghost use Rattle.std.specs.Option.{option_copied};
 ghost use Rattle.usb_desc.specs.Cut.{standard_length};
@@ -108,7 +108,7 @@ fn extend(tree: &mut ConfigTree, piece: &[u8]) -> Result<(), Memory>
     }
 }
 
-/// Adds what a descriptor says.
+/// Adds a descriptor.
 pub fn add(alloc: Global, tree: &mut ConfigTree, piece: &[u8]) -> Result<(), Memory>
     requires header { 2 ≤ length piece.now }
     requires long { standard_length (slice_index piece.now 1) ≤ length piece.now }

@@ -1,14 +1,14 @@
-//! What a configuration says. A `tail` is what a descriptor has past its standard length, and `extras` are the
-//! descriptors of other types that follow it, as they stand.
+//! A configuration as a tree. A `tail` is what a descriptor has past its standard length, and `extras` are the
+//! descriptors of other types that follow it, unchanged.
 use usb_types::{Buf, List};
 
 /// A configuration.
 #[derive(Drop)]
 pub struct ConfigTree {
-    /// How many interfaces it says that it has.
+    /// The number of interfaces in the descriptor (`bNumInterfaces`).
     pub said: u8,
     pub value: u8,
-    /// The number of its string.
+    /// The index of its string.
     pub text: u8,
     pub attributes: u8,
     pub power: u8,
@@ -22,12 +22,12 @@ pub struct ConfigTree {
 pub struct Alt {
     pub number: u8,
     pub setting: u8,
-    /// How many endpoints it says that it has.
+    /// The number of endpoints in the descriptor (`bNumEndpoints`).
     pub said: u8,
     pub class: u8,
     pub subclass: u8,
     pub protocol: u8,
-    /// The number of its string.
+    /// The index of its string.
     pub text: u8,
     pub tail: Buf,
     pub extras: Buf,
@@ -39,7 +39,7 @@ pub struct Alt {
 pub struct End {
     pub address: u8,
     pub attributes: u8,
-    /// As it stands: the packet size is its low 11 bits.
+    /// As in the descriptor: the packet size is its low 11 bits.
     pub max_packet: u16,
     pub interval: u8,
     pub tail: Buf,

@@ -104,7 +104,7 @@ fn written(alloc: Global, total: u16, c: &ConfigTree, body: &[u8]) -> Result<Buf
     Ok(bytes)
 }
 
-/// The bytes of a configuration that some bytes can say.
+/// The bytes of a configuration that bytes can spell.
 #[tactic(auto, using(crate::proofs::Bytes::config_short))]
 pub fn write_config(alloc: Global, c: &ConfigTree) -> Result<Buf, Memory>
     requires { IsGood c.now }

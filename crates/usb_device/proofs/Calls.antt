@@ -34,7 +34,7 @@ module _ (script : DeviceScript) where
       state_from-snoc (at_00 script state n r).state (n + 1) asked q
       ∙ ap (λ k. (at_00 script (state_from script (at_00 script state n r).state (n + 1) asked) k q).state) more
 
-  -- a call at 00 leaves the state that its rule says
+  -- a call at 00 leaves the state of its rule
   pub state-snoc_00 : (calls : List Call) (c : Call) → c.address ≡ 0 → state_after script (calls ++ c ∷ []) ≡ (at_00 script (state_after script calls) (length (questions_at 0 calls)) c.question).state
   state-snoc_00 calls c e = let none : 0 + length (questions_at 0 calls) ≡ length (questions_at 0 calls) = omega arith in
       ap (state_from script first_state 0) (questions-snoc_here 0 calls c e)

@@ -63,7 +63,7 @@ eighth : reply_to keyboard (enumeration ++ asks 0x80 8 0 0 1 ∷ []) (asks 0x80 
 unfolding first_state
 eighth = refl
 
--- an address that is halted says so, stalls, and keeps its items
+-- an address that is halted is reported so, stalls, and keeps its items
 abbrev halted : List Call
 halted = enumeration ++ call_of 0x81 Fetch ∷ asks 0x80 8 0 0 1 ∷ asks 0x02 3 0 0x81 0 ∷ call_of 0x81 Fetch ∷ []
 

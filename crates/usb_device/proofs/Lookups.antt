@@ -2,7 +2,7 @@
 use Rattle.std.proofs.Common.{ℕ, zero, suc, ◌≡◌, ◌≢◌, ◌⊎◌, inl, inr, ⊎_elim, Some, List, [], ◌∷◌, refl, sym, ap, ◌∙◌, subst, arith}
 use Rattle.std.specs.Prelude.{slice_get, slice_set}
 
--- what stands there is the new item, and elsewhere what stood there
+-- at that place is the new item, and elsewhere the old one
 pub looked_up : {X : Type 0} (xs : List X) (i j : ℕ) (y x : X) → slice_get (slice_set xs i y) j ≡ Some x → ((j ≡ i) × (x ≡ y)) ⊎ ((j ≢ i) × (slice_get xs j ≡ Some x))
 looked_up [] i j y x e = cc
 looked_up (z ∷ xs) zero zero y x e = let same : x ≡ y = cc in inl (refl, same)

@@ -1,4 +1,4 @@
--- A call, from what the object said to the reply that was due.
+-- A call, from what the script replied to the reply that was due.
 use Rattle.std.proofs.Common.{ℕ, ◌≡◌, ◌≢◌, Bool, true, false, eqb, Some, List, [], ◌∷◌, ◌++◌, refl, sym, ap, ◌∙◌, subst, arith, append-nil}
 use Rattle.std.specs.Prelude.{slice_get, slice_set}
 use Rattle.std.proofs.lemmas.Bool.{eqb-true}
@@ -23,7 +23,7 @@ use Rattle.usb_device.proofs.Used.{EndPlaced, EndAcked}
 use Rattle.usb_device.proofs.Spending.{left_same, left_acked}
 use Rattle.usb_device.proofs.Calls.{acked-snoc_here, acked-snoc_elsewhere}
 
--- whoever asked, this was said
+-- whatever script and calls the object stands for, it replied this
 abbrev pub Asks : Scripted → Scripted → ℕ → Question → Said → Type 0
 Asks old new a q said = (script : DeviceScript) (calls : List Call) → Stands old script calls → IsAsked new script calls (call_of a q) said
 

@@ -49,7 +49,7 @@ uses_left : (old new : Scripted) (a : ℕ) (next : Option (Bor What)) → Uses o
 uses_left old new a (Some what) uses = omega (arith, uses.left)
 uses_left old new a None uses = uses.left
 
--- what is said after the last item needs none
+-- the reply after the last item needs none
 last_unspent : (a : ℕ) → is_spent a (last_at a) ≢ true
 last_unspent a = go (eqb a 0) (goes_in a) refl
   where
@@ -58,7 +58,7 @@ last_unspent a = go (eqb a 0) (goes_in a) refl
     go false true e is = true≢false (sym is)
     go false false e is = true≢false (sym is ∙ e)
 
--- a use at an address, and what it says
+-- a use at an address, and its reply
 pub spends_next : (old new : Scripted) (a : ℕ) (next : Option (Bor What)) (r : Reply) → Uses old new a next → r ≡ next_or (last_at a) next → Spends old new a r
 spends_next old new a (Some what) r uses word = record { left = uses_left old new a (Some what) uses; spent = λ off is. uses.left }
 spends_next old new a None r uses word = record { left = uses.left; spent = λ off is. absurd (last_unspent a (ap (is_spent a) (sym word) ∙ is)) }

@@ -27,13 +27,13 @@ abbrev pub is_raw : Kind → Bool
 is_raw Raw = true
 is_raw _ = false
 
--- the rules know setup packets alone
+-- the rules are for setup packets alone
 abbrev pub ruled : DeviceScript → DeviceState → Question → Ruled
 ruled script state (Ask setup out) = control_rule script state setup out
 ruled script state (Send packet) = record { reply = Stall; state = state }
 ruled script state Fetch = record { reply = Stall; state = state }
 
--- what the items say to the control transfer that n came before, if the device isn't raw: nothing to the six of an
+-- what the items reply to the control transfer that n came before, if the device isn't raw: nothing to the six of an
 -- enumeration; an Ack, and no item, leave the reply to the rules
 abbrev pub said_at_00 : DeviceScript → ℕ → Reply
 said_at_00 script n = if nat_lt n 6 then Ack else reply_at Ack (items_at 0 script.answers) (n - 6)

@@ -16,7 +16,7 @@ abbrev pub reply_at : Reply → List Item → ℕ → Reply
 reply_at last [] n = last
 reply_at last (item ∷ items) n = if nat_lt n item.times then item.what else reply_at last items (n - item.times)
 
--- the reply to the call that n calls came before: an item replies as often as it says
+-- the reply to the call that n calls came before: an item replies as often as its count says
 abbrev pub reply_of : Script → ℕ → Reply
 reply_of script n = reply_at script.last script.items n
 
@@ -29,6 +29,6 @@ items_at address (said ∷ others) = (if said.address == address then said.items
 abbrev pub last_at : ℕ → Reply
 last_at address = if address == 0 then Stall else if goes_in address then Nak else Ack
 
--- what a device's script says of an address
+-- a device's script of an address
 abbrev pub script_at : DeviceScript → ℕ → Script
 script_at script address = record { items = items_at address script.answers; last = last_at address }

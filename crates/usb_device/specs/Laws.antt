@@ -1,4 +1,4 @@
--- What the laws of scripted devices speak of.
+-- Definitions that the laws of scripted devices use.
 use Rattle.std.specs.Prelude.{◌≡◌, Bool, false, List, length}
 use Rattle.std.specs.List.{All}
 use Rattle.usb_xfer.specs.Replies.{Question, Fetch, Send, Ask}

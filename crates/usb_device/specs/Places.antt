@@ -15,7 +15,7 @@ left_of place address = place.items.now ++ items_at address place.lines.now
 abbrev pub coming : Reply → Place → ℕ → ℕ → Reply
 coming last place address n = reply_at last (left_of place address) (place.used + n)
 
--- what an item says, or else the reply after the last one
+-- the reply of an item, or else the reply after the last one
 abbrev pub next_or : Reply → Option (Bor What) → Reply
 next_or last (Some what) = what.now
 next_or last None = last

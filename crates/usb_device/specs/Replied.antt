@@ -10,7 +10,7 @@ abbrev pub call_of : ℕ → Question → Call
 call_of address question = record { address = address; question = question }
 
 -- whatever script it has and whatever it heard, it gives the reply that is due, and then has heard this call too; the items
--- left never rise, and fall where an address other than 00 replies what only an item says
+-- left never rise, and fall where an address other than 00 gives a reply that only an item gives
 pub record Replied (old : Scripted) (address : ℕ) (question : Question) (r : Reply) (new : Scripted) : Type 0 where
   pub due : (script : DeviceScript) (calls : List Call) → Stands old script calls → r ≡ reply_to script calls (call_of address question)
   pub heard : (script : DeviceScript) (calls : List Call) → Stands old script calls → Stands new script (calls ++ call_of address question ∷ [])

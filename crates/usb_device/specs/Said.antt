@@ -1,4 +1,4 @@
--- What the script says to a question, before the rules reply where it is left to them.
+-- What the script replies to a question, before the rules reply where it is left to them.
 use Rattle.std.specs.Prelude.{ℕ, ◌≡◌, ◌+◌, ◌≢◌, ◌<◌, ◌≤◌, true, List, [], ◌∷◌, ◌++◌, Option, Some, slice_get, slice_set, MatchOption}
 use Rattle.std.specs.Borrow.{Bor}
 use Rattle.usb_xfer.specs.Replies.{Reply, Question}
@@ -16,19 +16,19 @@ use Rattle.usb_device.specs.Rules.{Ruled}
 use Rattle.usb_device.specs.Left.{items_left, is_spent}
 use Rattle.usb_device.specs.Device.{Call, ruled, reply_to, state_after, ArePlaced, AreAcked}
 
--- what is said, or what the rules make of it
+-- the reply of the script, or that of the rules
 abbrev pub word_of : Said → DeviceScript → DeviceState → Question → Ruled
 word_of (Item what) script state question = record { reply = what.now; state = state }
 word_of (Other what) script state question = record { reply = what; state = state }
 word_of Rules script state question = ruled script state question
 
--- what is said to a packet, of which the rules know nothing
+-- the reply to a packet, for which there are no rules
 abbrev pub packet_word : Said → Reply
 packet_word (Item what) = what.now
 packet_word (Other what) = what
 packet_word Rules = Stall
 
--- the object has used an item for this call, and said this; the state, and what was acknowledged, are still those before it
+-- the object used an item for this call, and replied this; the state and what was acknowledged are still those before it
 pub record IsAsked (new : Scripted) (script : DeviceScript) (calls : List Call) (c : Call) (said : Said) : Type 0 where
   pub of : new.script.now ≡ script
   pub state : new.state ≡ state_after script calls
@@ -50,7 +50,7 @@ pub record Uses (old new : Scripted) (address : ℕ) (next : Option (Bor What)) 
   pub on : (last : Reply) (k : ℕ) → coming last place address k ≡ coming last end.place address (k + 1)
   pub left : MatchOption next (items_left new ≤ items_left old) (λ what. items_left new < items_left old)
 
--- the items left never rise, and fall where an address other than 00 says what only an item says
+-- the items left never rise, and fall where an address other than 00 gives a reply that only an item gives
 pub record Spends (old new : Scripted) (address : ℕ) (r : Reply) : Type 0 where
   pub left : items_left new ≤ items_left old
   pub spent : address ≢ 0 → is_spent address r ≡ true → items_left new < items_left old

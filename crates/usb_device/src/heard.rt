@@ -20,7 +20,7 @@ pub fn put(bytes: &[u8], room: &mut [u8]) -> u32
     bytes.len() as u32
 }
 
-/// What the host hears of a reply where it asked for a packet, which stands in the room where it fits.
+/// What the host hears of a reply where it asked for a packet, which is put into the room where it fits.
 pub fn heard_in(reply: &What, room: &mut [u8]) -> InReply
     requires { is_short reply.now ≡ true }
     ensures { Hears reply.now room.old room.new result }

@@ -1,4 +1,4 @@
-//! What the kind of a device says: whether it is raw, and how many control transfers use no item.
+//! What depends on the kind of a device: whether it is raw, and how many control transfers use no item.
 ghost use Rattle.std.specs.Prelude.{◌≡◌, if◌then◌else◌};
 ghost use Rattle.usb_device.specs.Device.{is_raw};
 

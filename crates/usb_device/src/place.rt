@@ -41,7 +41,7 @@ impl<'a> Place<'a> {
         }
     }
 
-    /// Uses the next item of an address, where one is left, and gives what it says.
+    /// Uses the next item of an address, where one is left, and gives its reply.
     pub fn next(&mut self, address: u8) -> Option<&'a What>
         ensures item { (last : Reply) → next_or last result ≡ coming last self.old address 0 }
         ensures short { is_short (next_or Nak result) ≡ true }

@@ -1,4 +1,4 @@
-//! What a script says to a question.
+//! What a script replies to a question.
 ghost use Rattle.std.specs.Prelude.{◌≡◌, true};
 ghost use Rattle.usb_xfer.specs.Replies.{Question, Hears, out_heard};
 ghost use Rattle.usb_xfer.specs.declared.script.What.TheVariants as what;
@@ -13,10 +13,10 @@ ghost use Rattle.usb_device.specs.Said.{word_of, packet_word};
 use crate::heard::{heard_in, heard_out};
 use usb_xfer::{InReply, OutReply, What, is_in};
 
-/// What a script says to a question.
+/// What a script replies to a question.
 #[derive(Drop)]
 pub enum Said<'a> {
-    /// What an item says.
+    /// The reply of an item.
     Item(&'a What),
     /// The reply at a halt, or after the last item.
     Other(What),

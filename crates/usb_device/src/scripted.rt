@@ -98,7 +98,7 @@ impl<'a> Scripted<'a> {
         self.ends[address as usize].place.next(address)
     }
 
-    // What the script says at 00.
+    // What the script replies at 00.
     fn said_at_00(&mut self) -> Said<'a>
         ensures short { is_short (packet_word result) ≡ true }
         ensures asked { (script : DeviceScript) (calls : List Call) (question : Question) → Stands self.old script calls → IsAsked self.new script calls (call_of 0 question) result }
@@ -116,7 +116,7 @@ impl<'a> Scripted<'a> {
         }
     }
 
-    // What the script says at another address.
+    // What the script replies at another address.
     fn said_at_end(&mut self, address: u8) -> Said<'a>
         requires { address ≢ 0 }
         ensures short { is_short (packet_word result) ≡ true }
@@ -130,7 +130,7 @@ impl<'a> Scripted<'a> {
         Said::or_last(next, address)
     }
 
-    // What the script says to a question at an address.
+    // What the script replies to a question at an address.
     fn said(&mut self, address: u8) -> Said<'a>
         ensures short { is_short (packet_word result) ≡ true }
         ensures asked { (script : DeviceScript) (calls : List Call) (question : Question) → Stands self.old script calls → IsAsked self.new script calls (call_of address question) result }

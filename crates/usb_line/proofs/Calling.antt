@@ -41,8 +41,8 @@ module _ (s : Scene) (f : Progress) (i : ℕ) (c : Call) (run : LineRun) (p : �
   pub can : CanCall s f i c
   can = can_call s may.good f i c goes may.next.near (may.next.rest, may.next.all)
 
-  pub there : p < 2 + (length s.threads + 1)
-  there = subst (λ p. p < 2 + (length s.threads + 1)) may.pass (is_pass s i may.next.near)
+  pub there : p < 2 + (length s.threads + 3)
+  there = subst (λ p. p < 2 + (length s.threads + 3)) may.pass (is_pass s i may.next.near)
 
   pub other : p ≢ SERVER
   other e = not_server s i (may.pass ∙ e)

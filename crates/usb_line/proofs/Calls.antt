@@ -24,8 +24,8 @@ use Rattle.usb_line.specs.declared.made.HostCall.TheVariants as host_call
 use Rattle.usb_line.specs.declared.made.CallAnswer.{CallAnswer}
 use Rattle.usb_line.specs.declared.made.CallAnswer.TheVariants as told
 use Rattle.usb_line.specs.Prepared.{pass_of, main_pass, host_call_of, calls_of, is_hub}
-use Rattle.usb_line.specs.Run.{CallRecord, urbs_of, opening, call_entries, host_call_entries, IsMade, IsAnswered, down_after, AreDowns, done_by}
-use Rattle.usb_line.specs.Line.{Progress, begun, adds, call_record, with_call_record, woken, killing, shutting, ClaimsEach, none, one, Makes, at_once, served, killed, poisoned, shut_down, IsLine, start, call}
+use Rattle.usb_line.specs.Run.{CallRecord, urbs_of, opening, call_entries, host_call_entries, IsMade, IsAnswered, down_after, IsFound, AreFound, done_by}
+use Rattle.usb_line.specs.Line.{Progress, AreDowns, begun, adds, call_record, with_call_record, woken, killing, shutting, ClaimsEach, none, one, Makes, at_once, served, killed, poisoned, shut_down, IsLine, start, call}
 use Rattle.usb_line.proofs.Held.{rejects_at, down_at}
 use Rattle.usb_line.proofs.HostCalls.{raises, withdraws, is_hubs, named, host_call_hubs, sum_raised, sum_withdrawn, withdraws_named, withdraws_own, none_or_named}
 use Rattle.usb_line.proofs.Effects.{rejects_effect, down_effect}
@@ -59,8 +59,11 @@ pub record Goes (s : Scene) (f : Progress) : Type 0 where
   pub main : part_of f.history (main_pass s) ≡ opening s
   pub others : (p : ℕ) → p ≢ SERVER → p ≢ main_pass s → ((i : ℕ) → i < length s.threads → p ≢ pass_of s i) → part_of f.history p ≡ []
   pub told : All (IsMade s) f.call_records
-  pub downs : AreDowns s false f.call_records
-  pub down : down_by s false f.call_records ≡ f.down
+  pub downs : (i : ℕ) → i < length s.threads → AreFound s false (done_by i f.call_records)
+  pub all_downs : AreDowns s false f.call_records
+  pub all_down : down_by s false f.call_records ≡ f.down
+  -- the hub's calls are those that take the host down and up
+  pub hubs : (i : ℕ) → i < length s.threads → pass_of s i ≡ HUB → down_by s false (done_by i f.call_records) ≡ f.down
   -- the hub holds its flag on each URB exactly where the host is down
   pub flags : (v : ℕ) → v < urb_count s → down_at v (part_of f.history HUB) ≡ f.down
   -- a thread holds the rejects that its calls raised and did not withdraw
@@ -74,8 +77,10 @@ goes_begun s good = record {
   main = part_own (main_pass s) (opening s) reads;
   others = λ p off main none. part_other (main_pass s) p (opening s) (λ e. main (sym e)) reads;
   told = All-nil (IsMade s);
-  downs = tt;
-  down = refl;
+  downs = λ i l. tt;
+  all_downs = tt;
+  all_down = refl;
+  hubs = λ i l hub. refl;
   flags = λ v l. ap (down_at v) (part_other (main_pass s) HUB (opening s) (λ e. absurd (omega arith)) reads);
   rejects = λ i l v. ap (λ m. rejects_at v m + sum_withdrawn_by s v (calls_by i [])) (part_other (main_pass s) (pass_of s i) (opening s) (λ e. not_main s i l (sym e)) reads);
 }
@@ -87,15 +92,25 @@ AreDowns-push : (s : Scene) (b : Bool) (ds : List CallRecord) (d : CallRecord) �
 AreDowns-push s b [] d all e = (e, tt)
 AreDowns-push s b (x ∷ ds) d all e = (all.0, AreDowns-push s (down_after b (host_call_of s x.call) x.answer) ds d all.1 e)
 
-down_by-push : (s : Scene) (b : Bool) (ds : List CallRecord) (d : CallRecord) → down_by s b (ds ++ d ∷ []) ≡ down_after (down_by s b ds) (host_call_of s d.call) d.answer
+pub AreFound-push : (s : Scene) (b : Bool) (ds : List CallRecord) (d : CallRecord) → AreFound s b ds → IsFound (host_call_of s d.call) d.down (down_by s b ds) → AreFound s b (ds ++ d ∷ [])
+AreFound-push s b [] d all e = (e, tt)
+AreFound-push s b (x ∷ ds) d all e = (all.0, AreFound-push s (down_after b (host_call_of s x.call) x.answer) ds d all.1 e)
+
+pub down_by-push : (s : Scene) (b : Bool) (ds : List CallRecord) (d : CallRecord) → down_by s b (ds ++ d ∷ []) ≡ down_after (down_by s b ds) (host_call_of s d.call) d.answer
 down_by-push s b [] d = refl
 down_by-push s b (x ∷ ds) d = down_by-push s (down_after b (host_call_of s x.call) x.answer) ds d
 
--- a host_call that is not the hub's leaves the host as it is
+-- a call that is not the hub's leaves the host as it is
 same_down : (b : Bool) (dd : HostCall) (a : CallAnswer) → is_hubs dd ≡ false → down_after b dd a ≡ b
 same_down b host_call.Down a e = absurd (true≢false e)
 same_down b host_call.Up a e = absurd (true≢false e)
 same_down b _ a e = refl
+
+-- a call that is not the hub's asks for nothing
+is_found : (dd : HostCall) (down b : Bool) → (is_hubs dd ≡ true → down ≡ b) → IsFound dd down b
+is_found host_call.Down down b e = e refl
+is_found host_call.Up down b e = e refl
+is_found _ down b e = tt
 
 -- the calls made begin those of the scene, and this one is next
 abbrev pub IsNext : Scene → Progress → ℕ → Call → Type 0
@@ -180,6 +195,10 @@ module _ (s : Scene) (good : IsWellFormed s) (f : Progress) (i : ℕ) (c : Call)
         ∙ (sym (flat_map-append (call_entries s) (done_by i f.call_records) (d ∷ [])) ∙ ap (flat_map (call_entries s)) (sym done_own)))))
         (λ off. done.made.elsewhere (pass_of s j) (not_server s j) (other_threads s good j i l near off) ∙ (old.threads j l ∙ ap (flat_map (call_entries s)) (sym (done_other j off))))
 
+    not_hubs : (b : Bool) → is_hubs (host_call_of s c) ≡ b → p ≢ HUB → is_hubs (host_call_of s c) ≡ false
+    not_hubs true e off = absurd (off (only_hub e))
+    not_hubs false e off = e
+
     flags_now : (v : ℕ) → v < urb_count s → down_at v (part_of k.history HUB) ≡ k.down
     flags_now v l = dite (ℕ_discrete p HUB)
         (λ hub.
@@ -187,11 +206,26 @@ module _ (s : Scene) (good : IsWellFormed s) (f : Progress) (i : ℕ) (c : Call)
         ap (λ q. down_at v (part_of m.history q)) (sym hub) ∙ (ap (down_at v) done.made.own
         ∙ (down_effect s (pass_of s d.thread) d (part_of f.history p) v l (host_call_of s d.call) d.answer done.answered before ∙ ap (λ b. down_after b (host_call_of s d.call) d.answer) (found ∙ sym done.made.down))))
         (λ off.
-        ap (down_at v) (done.made.elsewhere HUB (λ e. absurd (omega arith)) (λ e. off (sym e))) ∙ (old.flags v l ∙ (sym done.made.down ∙ sym (same_down m.down (host_call_of s d.call) d.answer (ap (λ (c : Call). is_hubs (host_call_of s c)) call_is ∙ not_hub (is_hubs (host_call_of s c)) refl off)))))
-      where
-        not_hub : (b : Bool) → is_hubs (host_call_of s c) ≡ b → p ≢ HUB → is_hubs (host_call_of s c) ≡ false
-        not_hub true e off = absurd (off (only_hub e))
-        not_hub false e off = e
+        ap (down_at v) (done.made.elsewhere HUB (λ e. absurd (omega arith)) (λ e. off (sym e))) ∙ (old.flags v l ∙ (sym done.made.down ∙ sym (same_down m.down (host_call_of s d.call) d.answer (ap (λ (c : Call). is_hubs (host_call_of s c)) call_is ∙ not_hubs (is_hubs (host_call_of s c)) refl off)))))
+
+    found_it : IsFound (host_call_of s d.call) d.down (down_by s false (done_by i f.call_records))
+    found_it = is_found (host_call_of s d.call) d.down (down_by s false (done_by i f.call_records))
+        (λ hub. found ∙ sym (old.hubs i near (only_hub (ap (λ (c : Call). is_hubs (host_call_of s c)) (sym call_is) ∙ hub))))
+
+    downs_now : (j : ℕ) → j < length s.threads → AreFound s false (done_by j k.call_records)
+    downs_now j l = dite (ℕ_discrete j i)
+        (λ is. subst (λ j. AreFound s false (done_by j k.call_records)) (sym is)
+        (subst (AreFound s false) (sym done_own) (AreFound-push s false (done_by i f.call_records) d (old.downs i near) found_it)))
+        (λ off. subst (AreFound s false) (sym (done_other j off)) (old.downs j l))
+
+    hubs_now : (j : ℕ) → j < length s.threads → pass_of s j ≡ HUB → down_by s false (done_by j k.call_records) ≡ k.down
+    hubs_now j l hub = dite (ℕ_discrete j i)
+        (λ is. ap (λ j. down_by s false (done_by j k.call_records)) is ∙ (ap (down_by s false) done_own ∙ (down_by-push s false (done_by i f.call_records) d
+        ∙ ap (λ b. down_after b (host_call_of s d.call) d.answer) (old.hubs i near (subst (λ j. pass_of s j ≡ HUB) is hub) ∙ sym done.made.down))))
+        (λ off.
+        let other : p ≢ HUB = λ own. other_threads s good j i l near off (hub ∙ sym own) in
+        ap (down_by s false) (done_other j off) ∙ (old.hubs j l hub ∙ (sym done.made.down
+        ∙ sym (same_down m.down (host_call_of s d.call) d.answer (ap (λ (c : Call). is_hubs (host_call_of s c)) call_is ∙ not_hubs (is_hubs (host_call_of s c)) refl other)))))
 
     rejects_now : (j : ℕ) → j < length s.threads → (v : ℕ) → rejects_at v (part_of k.history (pass_of s j)) + sum_withdrawn_by s v (calls_by j k.call_records) ≡ sum_raised_by s v (calls_by j k.call_records)
     rejects_now j l v = dite (ℕ_discrete j i)
@@ -216,8 +250,10 @@ module _ (s : Scene) (good : IsWellFormed s) (f : Progress) (i : ℕ) (c : Call)
       main = done.made.elsewhere (main_pass s) (main_not_server s) (λ e. not_main s i near (sym e)) ∙ old.main;
       others = λ q off main none. done.made.elsewhere q off (none i near) ∙ old.others q off main none;
       told = subst (All (IsMade s)) (sym call_records_are) (All-push (IsMade s) f.call_records d old.told record { thread = subst (λ j. j < length s.threads) (sym thread_is) near; answered = done.answered });
-      downs = subst (AreDowns s false) (sym call_records_are) (AreDowns-push s false f.call_records d old.downs (found ∙ sym old.down));
-      down = ap (down_by s false) call_records_are ∙ (down_by-push s false f.call_records d ∙ ap (λ b. down_after b (host_call_of s d.call) d.answer) (old.down ∙ sym done.made.down));
+      downs = downs_now;
+      all_downs = subst (AreDowns s false) (sym call_records_are) (AreDowns-push s false f.call_records d old.all_downs (found ∙ sym old.all_down));
+      all_down = ap (down_by s false) call_records_are ∙ (down_by-push s false f.call_records d ∙ ap (λ b. down_after b (host_call_of s d.call) d.answer) (old.all_down ∙ sym done.made.down));
+      hubs = hubs_now;
       flags = flags_now;
       rejects = rejects_now;
     }

@@ -141,7 +141,7 @@ module _ (s : Scene) (h : List Entry) where
             (λ a is none. asked a c (dite (ℕ_discrete u a.urb) inl inr)))
           where
             before : IsAtRest (state_of (resting s h r) u)
-            before = subst IsAtRest (sym (other_state r.urb (h ++ given_entries r.urb r.status r.finished) (rest_entry r.urb (moved_in s r) ∷ []) (tt, refl, tt) u off
+            before = subst IsAtRest (sym (other_state r.urb (h ++ given_entries r.urb r.status r.finished) (rest_entry SERVER r.urb (moved_in s r) ∷ []) (tt, refl, tt) u off
                 ∙ other_state r.urb h (given_entries r.urb r.status r.finished) (given_about r.urb r.status r.finished) u off)) (calm u)
 
             queued : (b : Bool) (t : UrbState) → IsAtRest t → IsAtRest (cond b (record t { queued = true; mark = Clear }) t)
@@ -165,7 +165,7 @@ module _ (s : Scene) (h : List Entry) where
         go false = refl
 
     handled_owe : (m : List Entry) (u : ℕ) → owes m u ≡ false → (o : Outcome) → owes (m ++ handled_by s r.urb (moved_in s r) (resent s r) (question_at s r.urb) o) u ≡ false
-    handled_owe m u none outcome.Rest = none_owed m (rest_entry r.urb (moved_in s r) ∷ []) u none refl
+    handled_owe m u none outcome.Rest = none_owed m (rest_entry SERVER r.urb (moved_in s r) ∷ []) u none refl
     handled_owe m u none (outcome.Again Zero) = none_owed m (submit_entries SERVER r.urb (resent s r) Zero ++ []) u none (go (eqb r.urb u) refl)
       where
         go : (w : Bool) → eqb r.urb u ≡ w → fold (λ b x. owes_after u b x.event x.answer) false (submit_entries SERVER r.urb (resent s r) Zero ++ []) ≡ false
@@ -176,13 +176,13 @@ module _ (s : Scene) (h : List Entry) where
         go : (w : Bool) → eqb r.urb u ≡ w → fold (λ b x. owes_after u b x.event x.answer) false (handled_by s r.urb (moved_in s r) (resent s r) (question_at s r.urb) (outcome.Again (Fault e))) ≡ false
         go true is = ap (λ b. cond (b && false) true false) is
         go false is = ap (λ b. cond (b && false) true false) is
-    handled_owe m u none (outcome.Asked c) = ap (λ (l : List Entry). owes l u) (sym (append_assoc m (rest_entry r.urb (moved_in s r) ∷ []) (asked_entries s (question_at s r.urb) c)))
-        ∙ asked_each s (λ xs. owes ((m ++ rest_entry r.urb (moved_in s r) ∷ []) ++ xs) u ≡ false) (question_at s r.urb) c
-        (ap (λ (l : List Entry). owes l u) (append-nil (m ++ rest_entry r.urb (moved_in s r) ∷ [])) ∙ rested)
-        (λ a is no_. submit_owes_none SERVER a.urb a.transfer (m ++ rest_entry r.urb (moved_in s r) ∷ []) u c rested)
+    handled_owe m u none (outcome.Asked c) = ap (λ (l : List Entry). owes l u) (sym (append_assoc m (rest_entry SERVER r.urb (moved_in s r) ∷ []) (asked_entries s (question_at s r.urb) c)))
+        ∙ asked_each s (λ xs. owes ((m ++ rest_entry SERVER r.urb (moved_in s r) ∷ []) ++ xs) u ≡ false) (question_at s r.urb) c
+        (ap (λ (l : List Entry). owes l u) (append-nil (m ++ rest_entry SERVER r.urb (moved_in s r) ∷ [])) ∙ rested)
+        (λ a is no_. submit_owes_none SERVER a.urb a.transfer (m ++ rest_entry SERVER r.urb (moved_in s r) ∷ []) u c rested)
       where
-        rested : owes (m ++ rest_entry r.urb (moved_in s r) ∷ []) u ≡ false
-        rested = none_owed m (rest_entry r.urb (moved_in s r) ∷ []) u none refl
+        rested : owes (m ++ rest_entry SERVER r.urb (moved_in s r) ∷ []) u ≡ false
+        rested = none_owed m (rest_entry SERVER r.urb (moved_in s r) ∷ []) u none refl
 
     giveback_owe : (m : List Entry) (u : ℕ) → owes m u ≡ false → owes (m ++ giveback_entries s r) u ≡ false
     giveback_owe m u none = ap (λ (l : List Entry). owes l u) (whole s m r)

@@ -337,7 +337,7 @@ module _ (s : Scene) (h : List Entry) (call_records : List CallRecord) (rounds :
 
   -- and by the givebacks
   by_rounds : slice_get (givens_of h) (length front) ≡ Some (carried_of (flat_map (giveback_entries s) front) next.urb)
-  by_rounds = ap (λ l. slice_get l (length front)) ((are_served (machine_of s) h run.legal).givens ∙ (ap givens_of run.server ∙ rounds_givens s rounds []))
+  by_rounds = ap (λ l. slice_get l (length front)) ((are_served (machine_of s) h run.legal).givens ∙ (ap givens_of (run.together refl) ∙ rounds_givens s rounds []))
       ∙ (ap (λ l. slice_get (expected s [] l) (length front)) split ∙ expected_at s [] front next behind)
 
   pub by_both : carried_of at.pre next.urb ≡ carried_of (flat_map (giveback_entries s) front) next.urb
@@ -351,7 +351,7 @@ module _ (s : Scene) (h : List Entry) (call_records : List CallRecord) (rounds :
 -- what the server submitted and did not give back, after all givebacks: nothing
 pub none_left : (s : Scene) (h : List Entry) (call_records : List CallRecord) (rounds : List Giveback) → IsRun s h call_records rounds → (u : ℕ) → carried_of (flat_map (giveback_entries s) rounds) u ≡ None
 none_left s h call_records rounds run u =
-    ap (λ l. carried_of l u) (sym run.server)
+    ap (λ l. carried_of l u) (sym (run.together refl))
     ∙ (sym ((are_served (machine_of s) h run.legal).carried u)
     ∙ (is_carried (machine_of s) u h run.legal).none (none_queued s h call_records rounds run u))
 

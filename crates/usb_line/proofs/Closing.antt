@@ -177,7 +177,7 @@ module _ (s : Scene) (good : IsWellFormed s) where
       }
 
 -- main rejects each of these URBs and sees it quiet
-seen_follow : (s : Scene) (p : ℕ) → p < 2 + (length s.threads + 1) → (us : List ℕ) (h : List Entry) → ((v : ℕ) → 0 < times v us → (state_of h v).queued ≡ false) → IsCalm h → AllFollow (machine_of s) h (flat_map (seen_quiet p) us)
+seen_follow : (s : Scene) (p : ℕ) → p < 2 + (length s.threads + 3) → (us : List ℕ) (h : List Entry) → ((v : ℕ) → 0 < times v us → (state_of h v).queued ≡ false) → IsCalm h → AllFollow (machine_of s) h (flat_map (seen_quiet p) us)
 seen_follow s p there [] h out calm = tt
 seen_follow s p there (u ∷ us) h out calm =
     let reject : Entry = plain_entry p (Reject record { 0 = u }) in let quiet : Entry = plain_entry p (Quiet record { 0 = u }) in

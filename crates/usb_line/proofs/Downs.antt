@@ -54,7 +54,7 @@ all_below (suc n) v l = let a = times-append v (below n) (n ∷ []) in dite (ℕ
     (λ is. let one : cond {A = ℕ} (eqb n v) 1 0 ≡ 1 = ap (λ b. cond {A = ℕ} b 1 0) (eq-eqb n v is) in omega arith)
     (λ off. let r = all_below n v (omega arith) in omega arith)
 
-module _ (s : Scene) (p : ℕ) (off : p ≢ SERVER) (there : p < 2 + (length s.threads + 1)) (f : Progress) where
+module _ (s : Scene) (p : ℕ) (off : p ≢ SERVER) (there : p < 2 + (length s.threads + 3)) (f : Progress) where
   -- as many claims as URBs
   claims_length : (us : List ℕ) (rests : List (Option ℕ)) (m : Progress) → ClaimsEach s p f us rests m → length rests ≡ length us
   claims_length _ _ _ none = refl

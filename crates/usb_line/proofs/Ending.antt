@@ -89,11 +89,11 @@ module _ (s : Scene) where
 
       -- and main saw each quiet
       pub closed_now : (p : ℕ) (after : Plain) → p ≡ main
-          → (p < 2 + (length s.threads + 1) → ((u : ℕ) → u < n → ((state_of at.far.history u).queued ≡ false) × ((state_of at.far.history u).handlers ≡ 0) × ((held_of (part_of at.far.history p) u).rejects < 255))
+          → (p < 2 + (length s.threads + 3) → ((u : ℕ) → u < n → ((state_of at.far.history u).queued ≡ false) × ((state_of at.far.history u).handlers ≡ 0) × ((held_of (part_of at.far.history p) u).rejects < 255))
           → Stands after (machine_of s) (at.far.history ++ flat_map (seen_quiet p) (below n))) → Closed s f (record now { plain = after })
       closed_now p after pass seen =
           let xs : List Entry = flat_map (seen_quiet main) (urbs_of s) in
-          let there : p < 2 + (length s.threads + 1) = subst (λ p. p < 2 + (length s.threads + 1)) (sym pass) (main_is_pass s) in
+          let there : p < 2 + (length s.threads + 3) = subst (λ p. p < 2 + (length s.threads + 3)) (sym pass) (main_is_pass s) in
           let quiet : (u : ℕ) → u < n → ((state_of at.far.history u).queued ≡ false) × ((state_of at.far.history u).handlers ≡ 0) × ((held_of (part_of at.far.history p) u).rejects < 255)
           = λ u l. subst (λ p. ((state_of at.far.history u).queued ≡ false) × ((state_of at.far.history u).handlers ≡ 0) × ((held_of (part_of at.far.history p) u).rejects < 255)) (sym pass) (each_quiet u l) in
           let stands : Stands after (machine_of s) (at.far.history ++ xs)

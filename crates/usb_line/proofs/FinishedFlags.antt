@@ -282,4 +282,4 @@ rounds_flags s (r ∷ rounds) m none = ap (flags_after m) (flat_map-cons (giveba
 
 -- a giveback says whether the transfer that it gave back ended by itself
 pub run_flags : (s : Scene) (h : List Entry) (call_records : List CallRecord) (rounds : List Giveback) → IsRun s h call_records rounds → flags_of h ≡ map (λ r. r.finished) rounds
-run_flags s h call_records rounds run = (are_served (machine_of s) h run.legal).flags ∙ (ap flags_of run.server ∙ rounds_flags s rounds [] (λ u. refl))
+run_flags s h call_records rounds run = (are_served (machine_of s) h run.legal).flags ∙ (ap flags_of (run.together refl) ∙ rounds_flags s rounds [] (λ u. refl))

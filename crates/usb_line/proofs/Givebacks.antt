@@ -150,7 +150,7 @@ module _ (s : Scene) (h : List Entry) (u : ℕ) (back again : Transfer) (asking 
   handling o = handled_by s u back again asking o
 
   abbrev rest : Entry
-  rest = rest_entry u back
+  rest = rest_entry SERVER u back
 
   pub handled_pass : (o : Outcome) → AreOf SERVER (handling o)
   handled_pass outcome.Rest = (refl, tt)
@@ -288,11 +288,11 @@ module _ (s : Scene) (h : List Entry) (r : Giveback) where
       ∙ ap (λ t. cond (eqb r.urb v && resubmits r.outcome) (Some (resent s r)) t) (given_sent v)))
 
   abbrev pub resting : List Entry
-  resting = given ++ rest_entry r.urb (moved_in s r) ∷ []
+  resting = given ++ rest_entry SERVER r.urb (moved_in s r) ∷ []
 
   pub whole_asked : (c : Code) → r.outcome ≡ outcome.Asked c → h ++ giveback_entries s r ≡ (resting ++ asked_entries s asking c) ++ end ∷ []
   whole_asked c did = whole ∙ ap (λ l. l ++ end ∷ []) (ap (λ o. given ++ handled_by s r.urb (moved_in s r) (resent s r) asking o) did
-      ∙ sym (append_assoc given (rest_entry r.urb (moved_in s r) ∷ []) (asked_entries s asking c)))
+      ∙ sym (append_assoc given (rest_entry SERVER r.urb (moved_in s r) ∷ []) (asked_entries s asking c)))
 
   -- the URB of a question that was accepted is queued with it
   module _ (a : DriverQuestion) (is : asking ≡ Some a) (did : r.outcome ≡ outcome.Asked Zero) (none : shape_fault (shape_at s (home s a.urb)) a.transfer ≡ None) (off : a.urb ≢ r.urb) where
@@ -303,7 +303,7 @@ module _ (s : Scene) (h : List Entry) (r : Giveback) where
     giveback_posed = ap (λ (l : List Entry). state_of l a.urb) asks
         ∙ (other_state r.urb (resting ++ asked_entries s (Some a) Zero) (end ∷ []) (tt, refl, tt) a.urb off
         ∙ (asked_own s resting a none
-        ∙ ap (λ (t : UrbState). record t { queued = true; mark = Clear }) (other_state r.urb given (rest_entry r.urb (moved_in s r) ∷ []) (tt, refl, tt) a.urb off
+        ∙ ap (λ (t : UrbState). record t { queued = true; mark = Clear }) (other_state r.urb given (rest_entry SERVER r.urb (moved_in s r) ∷ []) (tt, refl, tt) a.urb off
         ∙ other_state r.urb h (given_entries r.urb r.status r.finished) (given_about r.urb r.status r.finished) a.urb off)))
 
     pub giveback_posed_sent : sent_of (h ++ giveback_entries s r) a.urb ≡ Some a.transfer
@@ -352,11 +352,11 @@ module _ (s : Scene) (h : List Entry) (r : Giveback) where
 
     -- the submit of a question that its endpoint takes
     posing : (a : DriverQuestion) → CanPose s r.urb a → (c : Code) → c ≡ submit_answer (shape_fault (shape_at s (home s a.urb)) a.transfer) (refusal (state_of given a.urb))
-        → AllFollow (machine_of s) (given ++ rest_entry r.urb (moved_in s r) ∷ []) (asked_entries s (Some a) c)
+        → AllFollow (machine_of s) (given ++ rest_entry SERVER r.urb (moved_in s r) ∷ []) (asked_entries s (Some a) c)
     posing a pose c is = go (shape_fault (shape_at s (home s a.urb)) a.transfer) refl is
       where
         same : state_of resting a.urb ≡ state_of given a.urb
-        same = other_state r.urb given (rest_entry r.urb (moved_in s r) ∷ []) (tt, refl, tt) a.urb pose.apart
+        same = other_state r.urb given (rest_entry SERVER r.urb (moved_in s r) ∷ []) (tt, refl, tt) a.urb pose.apart
 
         go : (fault : Option Errno) → shape_fault (shape_at s (home s a.urb)) a.transfer ≡ fault → c ≡ submit_answer fault (refusal (state_of given a.urb))
             → AllFollow (machine_of s) resting (submit_of fault SERVER a.urb a.transfer c)
@@ -364,7 +364,7 @@ module _ (s : Scene) (h : List Entry) (r : Giveback) where
         go None none says = subst (λ c. AllFollow (machine_of s) resting (submit_entries SERVER a.urb a.transfer c)) (ap refusal same ∙ sym says)
             (submit_follow s resting SERVER a.urb a.transfer (omega arith) pose.has pose.window pose.unmoved (subst (λ o. Accepts o a.transfer) (sym pose.home) none))
 
-    asked_follow : (o : Option DriverQuestion) → CanPoseAny s r.urb o → (c : Code) → IsGated s given r.urb o (outcome.Asked c) → AllFollow (machine_of s) (given ++ rest_entry r.urb (moved_in s r) ∷ []) (asked_entries s o c)
+    asked_follow : (o : Option DriverQuestion) → CanPoseAny s r.urb o → (c : Code) → IsGated s given r.urb o (outcome.Asked c) → AllFollow (machine_of s) (given ++ rest_entry SERVER r.urb (moved_in s r) ∷ []) (asked_entries s o c)
     asked_follow None pose c is = tt
     asked_follow (Some a) pose c is = posing a pose c is
 

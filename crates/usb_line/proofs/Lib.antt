@@ -25,6 +25,7 @@ pub mod Bytes
 pub mod Moves
 pub mod Resending
 pub mod Givebacks
+pub mod Parts
 pub mod Stills
 pub mod Submits
 pub mod Calm

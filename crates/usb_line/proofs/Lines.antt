@@ -6,6 +6,7 @@ use Rattle.std.proofs.lemmas.List.{append_cancel_left}
 use Rattle.std.proofs.lemmas.List.Elements.{filter-append}
 use mathlib.Core.Logic.{dite}
 use native.Mathlib.Decide.{ℕ_discrete}
+use Rattle.usb_machine.specs.declared.entry.TheConstants.{SERVER}
 use Rattle.usb_machine.specs.declared.entry.Entry.{Entry}
 use Rattle.usb_machine.specs.History.{Machine, home_of, state_of, line_of, pending_of}
 use Rattle.usb_machine.specs.Parts.{part_of}
@@ -17,8 +18,9 @@ use Rattle.usb_scene.specs.declared.scene.Scene.{Scene}
 use Rattle.usb_scene.specs.WellFormed.{IsWellFormed}
 use Rattle.usb_prepare.specs.Layout.{urb_count}
 use Rattle.usb_line.specs.Prepared.{machine_of, pass_of, main_pass}
-use Rattle.usb_line.specs.Run.{urbs_of, Giveback, done_by, call_entries, seen_quiet, kills_of, firsts_of, IsMade, AreDowns, opening, IsOver, IsFramed, IsRun}
-use Rattle.usb_line.specs.Line.{Progress, begun, adds, IsLineRun}
+use Rattle.usb_line.specs.Run.{urbs_of, Giveback, done_by, call_entries, seen_quiet, kills_of, firsts_of, IsMade, AreFound, opening, IsOver, IsFramed, IsRun}
+use Rattle.usb_line.specs.Line.{Progress, AreDowns, begun, adds, IsLineRun}
+use Rattle.usb_line.proofs.Parts.{of_controller, of_handlers}
 use Rattle.usb_line.proofs.MayFollow.{once}
 use Rattle.usb_line.proofs.Serving.{AreFirstGiven, Serves}
 use Rattle.usb_line.proofs.Passes.{not_server, not_main}
@@ -145,11 +147,13 @@ module _ (s : Scene) (good : IsWellFormed s) (f : Progress) (run : IsLineRun s f
     legal = serves.legal;
     over = is_over;
     told = subst (All (IsMade s)) (sym made.call_records) goes.told;
-    downs = subst (AreDowns s false) (sym made.call_records) goes.downs;
+    downs = λ i l. subst (λ ds. AreFound s false (done_by i ds)) (sym made.call_records) (goes.downs i l);
     calls = λ i thread at. calls_made s last.call_records (ap (map call_of) made.call_records ∙ run.all) i thread at;
     threads = λ i l. made.elsewhere (pass_of s i) (not_server s i) (not_main s i l) ∙ (goes.threads i l ∙ ap (λ ds. flat_map (call_entries s) (done_by i ds)) (sym made.call_records));
     framed = is_framed;
-    server = serves.server;
+    server = of_controller s (part_of h SERVER) last.rounds serves.server;
+    handlers = of_handlers s (part_of h SERVER) last.rounds serves.server;
+    together = λ same. serves.server;
     others = λ p off main none. made.elsewhere p off main ∙ goes.others p off main none;
     gives = serves.gives;
     firsts = first_at last.rounds (firsts_of (machine_of s) h) serves.firsts;
@@ -161,3 +165,7 @@ module _ (s : Scene) (good : IsWellFormed s) (f : Progress) (run : IsLineRun s f
   -- the run in line order through all calls, with its close, is a run of the scene
   pub line_is_run : IsRun s f.history f.call_records f.rounds
   line_is_run = subst (λ (g : Progress). IsRun s g.history g.call_records g.rounds) (sym run.seen) is_run
+
+  -- and each call found the host as all calls before it had left it
+  pub line_downs : AreDowns s false f.call_records
+  line_downs = subst (λ (g : Progress). AreDowns s false g.call_records) (sym run.seen) (subst (AreDowns s false) (sym made.call_records) goes.all_downs)

@@ -63,7 +63,7 @@ made_turned s f m k p xs off a serves t = record {
   down = t.down ∙ a.down;
 }
 
-module _ (s : Scene) (p u : ℕ) (there : p < 2 + (length s.threads + 1)) where
+module _ (s : Scene) (p u : ℕ) (there : p < 2 + (length s.threads + 3)) where
   -- an URB that is quiet is seen so, and what rests is claimed under a reject or a flag
   pub claim_follow : (h : List Entry) → (state_of h u).queued ≡ false → (state_of h u).handlers ≡ 0 → holds_any (held_of (part_of h p) u) ≡ true
       → AllFollow (machine_of s) h (claim_entries p u (state_of h u).rest)

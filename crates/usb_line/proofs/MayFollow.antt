@@ -60,7 +60,7 @@ module _ (s : Scene) (h : List Entry) where
   pub end_follows : (u : ℕ) → 0 < (state_of h u).handlers → Follows (machine_of s) h (plain_entry SERVER (End record { 0 = u }))
   end_follows u run = record { pass = omega arith; may = (refl, run); answers = refl; carries = refl }
 
-  module _ (p u : ℕ) (there : p < 2 + (length s.threads + 1)) where
+  module _ (p u : ℕ) (there : p < 2 + (length s.threads + 3)) where
     -- a submit of a transfer that the home takes is answered by the gate
     pub submit_follows : (t : Transfer) → HasHome (machine_of s) u → HasWindow t → t.actual ≡ 0
         → Accepts (slice_get (machine_of s).layout.shapes (home s u)) t

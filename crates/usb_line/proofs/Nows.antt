@@ -68,7 +68,7 @@ module _ (s : Scene) (good : IsWellFormed s) (f : Progress) (i : ℕ) (c : Call)
   abbrev h : List Entry
   h = f.history
 
-  there : p < 2 + (length s.threads + 1)
+  there : p < 2 + (length s.threads + 3)
   there = is_pass s i can.near
 
   abbrev made : CallAnswer → CallRecord

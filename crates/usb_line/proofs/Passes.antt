@@ -17,7 +17,7 @@ pass_range i (Some thread) = elim (is_hub thread) as (λ b. (0 < cond b HUB (2 +
 pub not_server : (s : Scene) (i : ℕ) → pass_of s i ≢ SERVER
 not_server s i e = let n = pass_range i (slice_get s.threads i) in absurd (omega arith)
 
-pub is_pass : (s : Scene) (i : ℕ) → i < length s.threads → pass_of s i < 2 + (length s.threads + 1)
+pub is_pass : (s : Scene) (i : ℕ) → i < length s.threads → pass_of s i < 2 + (length s.threads + 3)
 is_pass s i l = let n = pass_range i (slice_get s.threads i) in omega arith
 
 pub not_main : (s : Scene) (i : ℕ) → i < length s.threads → pass_of s i ≢ main_pass s
@@ -26,7 +26,7 @@ not_main s i l e = let n = pass_range i (slice_get s.threads i) in absurd (omega
 pub main_not_server : (s : Scene) → main_pass s ≢ SERVER
 main_not_server s e = absurd (omega arith)
 
-pub main_is_pass : (s : Scene) → main_pass s < 2 + (length s.threads + 1)
+pub main_is_pass : (s : Scene) → main_pass s < 2 + (length s.threads + 3)
 main_is_pass s = omega arith
 
 -- a thread with a number of the scene

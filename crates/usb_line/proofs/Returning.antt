@@ -84,7 +84,7 @@ module _ (s : Scene) (f : Progress) (r : Giveback) where
   handler_episodes m (outcome.Again Zero) = refl
   handler_episodes m (outcome.Again (Fault e)) = refl
   handler_episodes m (outcome.Asked c) =
-      asked_each s (λ xs. (m : List Entry) → episodes_after m (xs ++ plain_entry SERVER (End record { 0 = r.urb }) ∷ []) ≡ []) (question_at s r.urb) c (λ m. refl) (λ a is none. some a c) (m ++ rest_entry r.urb (moved_in s r) ∷ [])
+      asked_each s (λ xs. (m : List Entry) → episodes_after m (xs ++ plain_entry SERVER (End record { 0 = r.urb }) ∷ []) ≡ []) (question_at s r.urb) c (λ m. refl) (λ a is none. some a c) (m ++ rest_entry SERVER r.urb (moved_in s r) ∷ [])
     where
       some : (a : DriverQuestion) (c : Code) (m : List Entry) → episodes_after m (submit_entries SERVER a.urb a.transfer c ++ plain_entry SERVER (End record { 0 = r.urb }) ∷ []) ≡ []
       some a Zero m = refl
@@ -108,7 +108,7 @@ module _ (s : Scene) (f : Progress) (r : Giveback) where
   handler_firsts m (outcome.Again Zero) = refl
   handler_firsts m (outcome.Again (Fault e)) = refl
   handler_firsts m (outcome.Asked c) =
-      asked_each s (λ xs. (m : List Entry) → firsts_after (machine_of s) m (xs ++ plain_entry SERVER (End record { 0 = r.urb }) ∷ []) ≡ []) (question_at s r.urb) c (λ m. refl) (λ a is none. some a c) (m ++ rest_entry r.urb (moved_in s r) ∷ [])
+      asked_each s (λ xs. (m : List Entry) → firsts_after (machine_of s) m (xs ++ plain_entry SERVER (End record { 0 = r.urb }) ∷ []) ≡ []) (question_at s r.urb) c (λ m. refl) (λ a is none. some a c) (m ++ rest_entry SERVER r.urb (moved_in s r) ∷ [])
     where
       some : (a : DriverQuestion) (c : Code) (m : List Entry) → firsts_after (machine_of s) m (submit_entries SERVER a.urb a.transfer c ++ plain_entry SERVER (End record { 0 = r.urb }) ∷ []) ≡ []
       some a Zero m = refl
@@ -128,7 +128,7 @@ module _ (s : Scene) (f : Progress) (r : Giveback) where
   handler_served outcome.Rest = refl
   handler_served (outcome.Again Zero) = refl
   handler_served (outcome.Again (Fault e)) = refl
-  handler_served (outcome.Asked c) = ap (λ xs. rest_entry r.urb (moved_in s r) ∷ xs)
+  handler_served (outcome.Asked c) = ap (λ xs. rest_entry SERVER r.urb (moved_in s r) ∷ xs)
       (asked_each s (λ xs. served (xs ++ plain_entry SERVER (End record { 0 = r.urb }) ∷ []) ≡ xs ++ plain_entry SERVER (End record { 0 = r.urb }) ∷ []) (question_at s r.urb) c refl (λ a is none. some a c))
     where
       some : (a : DriverQuestion) (c : Code) → let xs = submit_entries SERVER a.urb a.transfer c ++ plain_entry SERVER (End record { 0 = r.urb }) ∷ [] in served xs ≡ xs

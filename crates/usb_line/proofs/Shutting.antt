@@ -33,7 +33,7 @@ use Rattle.usb_line.proofs.Showing.{shows_still}
 hub_other : HUB ≢ SERVER
 hub_other e = absurd (omega arith)
 
-pub hub_there : (s : Scene) → HUB < 2 + (length s.threads + 1)
+pub hub_there : (s : Scene) → HUB < 2 + (length s.threads + 3)
 hub_there s = omega arith
 
 -- an URB was waited for

@@ -80,7 +80,7 @@ module _ (p u : ℕ) (t : Transfer) where
         go (Fault x) false is = ap (λ b. cond b (sent_of h v) (sent_of h v)) is
 
 -- a submit of a transfer that the home takes, answered by the gate
-pub submit_follow : (s : Scene) (h : List Entry) (p u : ℕ) (t : Transfer) → p < 2 + (length s.threads + 1) → HasHome (machine_of s) u → HasWindow t → t.actual ≡ 0
+pub submit_follow : (s : Scene) (h : List Entry) (p u : ℕ) (t : Transfer) → p < 2 + (length s.threads + 3) → HasHome (machine_of s) u → HasWindow t → t.actual ≡ 0
     → Accepts (slice_get (machine_of s).layout.shapes (home s u)) t → AllFollow (machine_of s) h (submit_entries p u t (refusal (state_of h u)))
 submit_follow s h p u t there has window fresh accepts = go (refusal (state_of h u)) (submit_follows s h p u there t has window fresh accepts)
   where

@@ -261,6 +261,11 @@ pub data IsLine (s : Scene) : Progress → Type 0 where
   start : IsLine s (begun s)
   call : (f m : Progress) (i : ℕ) (c : Call) (d : CallRecord) → IsLine s f → i < length s.threads → Makes s f i c d m → IsLine s (with_call_record s m d)
 
+-- each call found the host as all calls before it had left it, of whatever thread
+abbrev pub AreDowns : Scene → Bool → List CallRecord → Type 0
+AreDowns s b [] = Unit {0}
+AreDowns s b (d ∷ ds) = (d.down ≡ b) × AreDowns s (down_after b (host_call_of s d.call) d.answer) ds
+
 -- main kills each URB in rising number
 pub data Closes (s : Scene) (f : Progress) : List ℕ → Progress → Type 0 where
   none : Closes s f [] f

@@ -52,9 +52,14 @@ pass_of s i = pass_by i (slice_get s.threads i)
 abbrev pub main_pass : Scene → ℕ
 main_pass s = 2 + length s.threads
 
--- the passes are the server's, the hub's, one for each thread, and main's. The server's runs the handlers
+-- the passes are the server's, the hub's, one for each thread, main's, and two in which no call of a scene has an entry: there
+-- is room for the anchors, and for handlers in a pass of their own. Here the server's pass runs the handlers
 abbrev pub machine_of : Scene → Machine
-machine_of s = record { layout = layout_of s; passes = 2 + (length s.threads + 1); bottom = SERVER }
+machine_of s = record { layout = layout_of s; passes = 2 + (length s.threads + 3); bottom = SERVER }
+
+-- the pass in which completion handlers run
+abbrev pub handlers_pass : Scene → ℕ
+handlers_pass s = (machine_of s).bottom
 
 abbrev pub script_in : ℕ → Option SceneDevice → Script
 script_in address None = record { items = []; last = last_at address }

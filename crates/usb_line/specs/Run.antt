@@ -11,7 +11,7 @@ use Rattle.usb_types.specs.declared.urb.Action.TheVariants as action
 use Rattle.usb_types.specs.declared.urb.Flag.TheVariants as flag
 use Rattle.usb_machine.specs.declared.entry.TheConstants.{SERVER}
 use Rattle.usb_machine.specs.declared.event.Event.{Event}
-use Rattle.usb_machine.specs.declared.event.Event.TheVariants.{Take, Finish, Give, Rest, End, Reject, Quiet}
+use Rattle.usb_machine.specs.declared.event.Event.TheVariants.{Submit, Link, Take, Finish, Give, Rest, End, Reject, Quiet}
 use Rattle.usb_machine.specs.declared.event.Answer.{Answer}
 use Rattle.usb_machine.specs.declared.event.Answer.TheVariants.{Nothing, Code as Status, Truth}
 use Rattle.usb_machine.specs.declared.transfer.Transfer.{Transfer}
@@ -45,7 +45,7 @@ use Rattle.usb_prepare.specs.Below.{below}
 use Rattle.usb_prepare.specs.Ends.{shape_at}
 use Rattle.usb_prepare.specs.Layout.{urb_count, home}
 use Rattle.usb_prepare.specs.Prepared.{bindings_of}
-use Rattle.usb_line.specs.Prepared.{machine_of, owner_of, read_of, origin_of, DriverQuestion, question_at, fresh, submit_fault, again_of, host_call_of, pass_of, main_pass}
+use Rattle.usb_line.specs.Prepared.{machine_of, handlers_pass, owner_of, read_of, origin_of, DriverQuestion, question_at, fresh, submit_fault, again_of, host_call_of, pass_of, main_pass}
 use Rattle.usb_line.specs.Due.{next_due}
 
 -- all URBs of a scene
@@ -122,10 +122,16 @@ down_after b host_call.Down told.Done = true
 down_after b host_call.Up a = false
 down_after b d a = b
 
--- each call found the host as the calls before it left it
-abbrev pub AreDowns : Scene → Bool → List CallRecord → Type 0
-AreDowns s b [] = Unit {0}
-AreDowns s b (d ∷ ds) = (d.down ≡ b) × AreDowns s (down_after b (host_call_of s d.call) d.answer) ds
+-- a call that takes the host down or up found it so; the others do not ask
+abbrev pub IsFound : HostCall → Bool → Bool → Type 0
+IsFound host_call.Down down b = down ≡ b
+IsFound host_call.Up down b = down ≡ b
+IsFound _ down b = Unit {0}
+
+-- each call found the host as the calls of its thread before it left it
+abbrev pub AreFound : Scene → Bool → List CallRecord → Type 0
+AreFound s b [] = Unit {0}
+AreFound s b (d ∷ ds) = IsFound (host_call_of s d.call) d.down b × AreFound s (down_after b (host_call_of s d.call) d.answer) ds
 
 -- an episode that is over: its URB, its status, whether its transfer's result is the status, the transfer that was sent,
 -- the replies that moved it, and what the handler did
@@ -155,22 +161,22 @@ resent_as o status t = window_by (action_by o true status t) t
 abbrev pub resent : Scene → Giveback → Transfer
 resent s r = resent_as (owner_of s r.urb) r.status (moved_in s r)
 
-abbrev pub rest_entry : ℕ → Transfer → Entry
-rest_entry u t = entry SERVER (Rest record { 0 = u } t.number) Nothing (Some t)
+abbrev pub rest_entry : ℕ → ℕ → Transfer → Entry
+rest_entry p u t = entry p (Rest record { 0 = u } t.number) Nothing (Some t)
 
 -- a driver's question is submitted, where the endpoint takes it
 abbrev pub asked_entries : Scene → Option DriverQuestion → Code → List Entry
 asked_entries s None code = []
-asked_entries s (Some a) code = submit_of (shape_fault (shape_at s (home s a.urb)) a.transfer) SERVER a.urb a.transfer code
+asked_entries s (Some a) code = submit_of (shape_fault (shape_at s (home s a.urb)) a.transfer) (handlers_pass s) a.urb a.transfer code
 
 -- the handler rests the transfer, or submits it again and rests it where that is refused, or rests it and asks its driver's question
 abbrev pub handled_by : Scene → ℕ → Transfer → Transfer → Option DriverQuestion → Outcome → List Entry
-handled_by s u back again asking outcome.Rest = rest_entry u back ∷ []
-handled_by s u back again asking (outcome.Again code) = submit_entries SERVER u again code ++ (if is_zero code then [] else rest_entry u again ∷ [])
-handled_by s u back again asking (outcome.Asked code) = rest_entry u back ∷ asked_entries s asking code
+handled_by s u back again asking outcome.Rest = rest_entry (handlers_pass s) u back ∷ []
+handled_by s u back again asking (outcome.Again code) = submit_entries (handlers_pass s) u again code ++ (if is_zero code then [] else rest_entry (handlers_pass s) u again ∷ [])
+handled_by s u back again asking (outcome.Asked code) = rest_entry (handlers_pass s) u back ∷ asked_entries s asking code
 
 abbrev pub handler_entries : Scene → Giveback → List Entry
-handler_entries s r = handled_by s r.urb (moved_in s r) (resent s r) (question_at s r.urb) r.outcome ++ plain_entry SERVER (End record { 0 = r.urb }) ∷ []
+handler_entries s r = handled_by s r.urb (moved_in s r) (resent s r) (question_at s r.urb) r.outcome ++ plain_entry (handlers_pass s) (End record { 0 = r.urb }) ∷ []
 
 -- the server finishes the URB where no mark stood, and gives it back
 abbrev pub given_entries : ℕ → Code → Bool → List Entry
@@ -264,6 +270,14 @@ is_aside (Take e) a = true
 is_aside (Finish u c) a = not (finishes a)
 is_aside _ a = false
 
+-- whether an event is one of a completion handler: it submits or rests a transfer, or ends
+abbrev pub is_handlers : Event → Bool
+is_handlers (Submit u n) = true
+is_handlers (Link u) = true
+is_handlers (Rest u n) = true
+is_handlers (End u) = true
+is_handlers _ = false
+
 -- the calls that a thread made
 abbrev pub done_by : ℕ → List CallRecord → List CallRecord
 done_by i call_records = filter (λ d. d.thread == i) call_records
@@ -347,16 +361,20 @@ pub record IsRun (s : Scene) (h : List Entry) (call_records : List CallRecord) (
   -- each entry may come where it stands, and has the machine's answer
   pub legal : IsLegal (machine_of s) h
   pub over : IsOver s h
-  -- each call is one of a thread, has its answer, and found the host as it was left
+  -- each call is one of a thread and has its answer, and each thread's calls found the host as its calls before had left it
   pub told : All (IsMade s) call_records
-  pub downs : AreDowns s false call_records
+  pub downs : (i : ℕ) → i < length s.threads → AreFound s false (done_by i call_records)
   -- each thread made the calls of its script, each once and in order
   pub calls : (i : ℕ) (thread : SceneThread) → slice_get s.threads i ≡ Some thread → map (λ d. d.call) (done_by i call_records) ≡ thread.calls
   -- a thread's part of the history is the entries of its calls with their answers
   pub threads : (i : ℕ) → i < length s.threads → part_of h (pass_of s i) ≡ flat_map (call_entries s) (done_by i call_records)
   pub framed : IsFramed s h
-  -- the server takes and finds marks, and beside this it gives back and handles one URB after another
-  pub server : filter (λ x. not (is_aside x.event x.answer)) (part_of h SERVER) ≡ flat_map (giveback_entries s) rounds
+  -- the controller takes and finds marks, and beside this it gives back one URB after another
+  pub server : filter (λ x. not (is_aside x.event x.answer) && not (is_handlers x.event)) (part_of h SERVER) ≡ flat_map (λ r. given_entries r.urb r.status r.finished) rounds
+  -- handlers run in the order of the givebacks, each to its end
+  pub handlers : filter (λ x. is_handlers x.event) (part_of h (handlers_pass s)) ≡ flat_map (handler_entries s) rounds
+  -- where they run in the controller's pass, each runs right after its giveback
+  pub together : handlers_pass s ≡ SERVER → filter (λ x. not (is_aside x.event x.answer)) (part_of h SERVER) ≡ flat_map (giveback_entries s) rounds
   -- no other pass has an entry
   pub others : (p : ℕ) → p ≢ SERVER → p ≢ main_pass s → ((i : ℕ) → i < length s.threads → p ≢ pass_of s i) → part_of h p ≡ []
   -- each Give ends the episode of its giveback, and one whose transfer had replies is of a first pending URB

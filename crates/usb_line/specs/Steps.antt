@@ -18,7 +18,7 @@ pub record AsMany (old new : Plain) : Type 0 where
 
 -- how many passes a scene has
 abbrev pub passes_of : Scene → ℕ
-passes_of s = 2 + (length s.threads + 1)
+passes_of s = 2 + (length s.threads + 3)
 
 -- the code in the answer of a Submit, a Mark or a Give
 abbrev pub told_code : Answer → Code

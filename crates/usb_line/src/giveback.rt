@@ -76,7 +76,12 @@ fn pose(plain: &mut Plain, posed_question: &PosedQuestion) -> Code
     if let Some(errno) = posed_question.fault {
         return Code::Fault(errno);
     }
-    submit_and_link(plain, SERVER, posed_question.urb, posed_question.transfer.number)
+    submit_and_link(
+        plain,
+        SERVER,
+        posed_question.urb,
+        posed_question.transfer.number,
+    )
 }
 
 // What the handler does: it submits the transfer with this number again, or rests it, and asks a question where there is one.

@@ -28,9 +28,12 @@ mod wait;
 mod wake;
 
 pub use call_laws::a_call_does_what_its_number_says;
-pub use laws::{a_run_in_line_order_is_a_run, a_scene_has_one_run_in_line_order};
+pub use laws::{
+    a_run_in_line_order_finds_the_host_as_it_was_left, a_run_in_line_order_is_a_run,
+    a_scene_has_one_run_in_line_order,
+};
 pub use line::{LineOutcome, run_line};
-pub use made::{CallAnswer, CallMade, HostCall, GivebackRow, Outcome};
+pub use made::{CallAnswer, CallMade, GivebackRow, HostCall, Outcome};
 pub use run::{EndReceived, Received};
 pub use run_laws::{
     a_drivers_windows_follow_one_another, a_printers_windows_are_jobs,

@@ -194,7 +194,7 @@ pub fn opening<'a>(
     requires layout { layout.now ≡ layout_of scene.now }
     ensures { IfOk result (λ run. Shows scene.now at_start run) }
 {
-    let passes = scene.threads.items().len() as u32 + 1;
+    let passes = scene.threads.items().len() as u32 + 3;
     let plain = Plain::new(alloc, layout, passes)?;
     started(alloc, scene, devices, board, ids, layout, plain)
 }

@@ -75,7 +75,7 @@ of_device n (d ∷ ds) all i x at = ⊎_elim
     (suc o.0, o.1, o.2, o.3, o.4 ∙ same, subst (λ (m : ℕ). slice_get (device_ends m o.1) o.2 ≡ Some x) same o.5))
     (in_either (device_ends n d) (shapes_from (n + 1) ds) i x at)
 
--- and the endpoints of a device stand after those of the devices before it
+-- and the endpoints of a device come after those of the devices before it
 pub stands_behind : (n d : ℕ) (ds : List SceneDevice) (device : SceneDevice) (k : ℕ) (x : Shape) → slice_get ds d ≡ Some device → slice_get (device_ends (n + d) device) k ≡ Some x
     → slice_get (shapes_from n ds) (length (shapes_from n (take d ds)) + k) ≡ Some x
 stands_behind n d [] device k x at is = cc

@@ -1,5 +1,5 @@
--- What holds of the endpoints and URBs of a well-formed scene, and of its devices before the run. Whatever stands on this
--- crate uses these facts alone.
+-- What holds of the endpoints and URBs of a well-formed scene, and of its devices before the run. The crates above this
+-- one use these facts alone.
 use Rattle.std.proofs.Common.{ℕ, zero, suc, ◌≡◌, ◌≢◌, ◌+◌, ◌<◌, ◌≤◌, ◌^◌, ⊎_elim, Bool, true, false, ◌&&◌, cond, eqb, Option, Some, None, List, [], ◌∷◌, ◌++◌, length, get_or, map, refl, sym, ap, ◌∙◌, subst, arith, length-append, add-zero, zero-add}
 use Rattle.std.specs.Prelude.{slice_index_or, slice_get, find, option_and_then, option_map}
 use Rattle.std.specs.List.{All}
@@ -356,7 +356,7 @@ module _ (s : Scene) (good : IsWellFormed s) where
   pub raw_asked : (e : ℕ) → is_raw_at s (shape_at s e).device ≡ true → asked_at (shape_at s e) ≡ (shape_at s e).address
   raw_asked e raw = asked_at_home s good e raw
 
-  -- the URBs of drivers stand after the scene's own, and no two roles have one
+  -- the URBs of drivers come after the scene's own, and no two roles have one
   is_role : (d interface u : ℕ) (role : Role) → role_urb s d interface role ≡ Some u → IsRole (bindings_of s) d interface u role
   unfolding role_urb
   is_role d interface u role e = of_role (bindings_of s) d interface u role e
@@ -406,7 +406,7 @@ module _ (s : Scene) (good : IsWellFormed s) where
       let late = ctl_last b.driver y.0 y.2 in
       known.rise i x.0 y.0 u v (b, at, x.1) (b, at, y.1) (omega arith)
 
-  -- a binding's URBs stand after the scene's own
+  -- a binding's URBs come after the scene's own
   pub bound_near : (i : ℕ) (b : Bound) (role : Role) (u : UrbId) → slice_get (bindings_of s) i ≡ Some b → urb_of_role b role ≡ Some u → (length s.urbs ≤ u.0) × (u.0 < urb_count s)
   unfolding IsSlot
   bound_near i b role u at has =
@@ -447,7 +447,7 @@ module _ (s : Scene) (good : IsWellFormed s) where
     pub bound_not_raw : is_raw_at s b.device ≡ false
     bound_not_raw = ap raw_in is_bound_at.at ∙ attached_not_raw b.device is_bound_at.device is_bound_at.attached is_bound_at.is
 
-    -- the home of an URB that isn't for control transfers is an endpoint of the device beside 00
+    -- the home of an URB that isn't for control transfers is an endpoint of the device other than 00
     other_home : role ≢ Ctl → (p : ℕ) × (e : End) × (shape_at s (home s u.0) ≡ shape_of_end b.device e) × (slice_get (host_ends is_bound_at.attached.config) p ≡ Some e) × (brings role ≡ true → is_in e ≡ true)
     other_home off =
         let place = other_place (host_ends is_bound_at.attached.config) role is_bound_at.place off for_role in
@@ -465,7 +465,7 @@ module _ (s : Scene) (good : IsWellFormed s) where
         let address = ap (λ (x : Shape). x.address) home.2 in
         (ap (λ (x : Shape). x.device) home.2, λ e. absurd (omega arith))
 
-    -- and where its transfers bring data in, the endpoint's address says so
+    -- and where its transfers bring data in, the endpoint is an IN endpoint
     pub bound_home_in : role ≢ Ctl → brings role ≡ true → goes_in (shape_at s (home s u.0)).address ≡ true
     bound_home_in off comes = let home = other_home off in ap (λ (x : Shape). goes_in x.address) home.2 ∙ home.4 comes
 

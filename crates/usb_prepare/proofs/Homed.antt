@@ -14,7 +14,7 @@ use Rattle.usb_prepare.proofs.Positions.{found, has_position, either}
 use Rattle.usb_prepare.proofs.Own.{raw_ends}
 use Rattle.usb_prepare.proofs.Numbering.{AreDevices, first_is, others_are, devices_at}
 
--- an endpoint of a device stands at its address
+-- an endpoint of a device is at its address
 ends_at : (d address : ℕ) (ends : List Shape) → All (IsEnd d) ends → list_any (λ (shape : Shape). shape.address == address) ends ≡ true → list_any (is_at d address) ends ≡ true
 ends_at d address [] a e = e
 ends_at d address (x ∷ ends) a e = go (eqb x.address address) refl (ends_at d address ends (All-tail (IsEnd d) x ends a))

@@ -37,7 +37,7 @@ use Rattle.usb_prepare.specs.Prepared.{Probes, with_device, probing_from, probed
 use Rattle.usb_prepare.proofs.Lists.{fold_keeps}
 use Rattle.usb_prepare.proofs.Numbering.{AreDevices, first_is, others_are, devices_at}
 
--- items that say no more than this
+-- items whose replies bring no more bytes than this
 abbrev AreWithin : ℕ → List Item → Type 0
 AreWithin most items = All (λ (item : Item). IsWithin most item.what) items
 
@@ -50,7 +50,7 @@ item_within most last is (x ∷ items) all n =
     go true rest = All-head (λ (item : Item). IsWithin most item.what) x items all
     go false rest = rest
 
--- the lines of address 00 say no more than this
+-- the items of address 00 bring no more bytes than this
 abbrev SayWithin : ℕ → Answers → Type 0
 SayWithin most said = said.address ≡ 0 → AreWithin most said.items
 

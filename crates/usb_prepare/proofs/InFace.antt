@@ -66,7 +66,7 @@ at_place c i n numbers same near =
     let is : get_or numbers i n ≡ a.number = ap (λ l. get_or l i n) same ∙ get_or_from_slice_get (map (λ (x : Alt). x.number) (interfaces_of c)) i a.number n (slice_get-map (λ (x : Alt). x.number) (interfaces_of c) i ∙ ap (option_map (λ (x : Alt). x.number)) there) in
     (a, there, ap (interface_at c) is ∙ (by_number c a.number ∙ find_at (interfaces_of c) i a (numbered c) there))
 
--- one face more
+-- one interface more
 face_snoc : (board : BoardValue) (d : ℕ) (alts : List Alt) (probes : List Probe) (a : Alt) (p : Probe) → length alts ≡ length probes → faces_of board d (alts ++ a ∷ []) (probes ++ p ∷ []) ≡ faces_of board d alts probes ++ face_of board d a p ∷ []
 face_snoc board d [] [] a p e = refl
 face_snoc board d [] (q ∷ probes) a p e = absurd (omega arith)

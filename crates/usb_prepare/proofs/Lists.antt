@@ -1,4 +1,4 @@
--- What stands in lists.
+-- The items of lists.
 use Rattle.std.proofs.Common.{ℕ, zero, suc, ◌≡◌, ◌≢◌, ◌+◌, ◌<◌, ◌≤◌, ◌⊎◌, inl, inr, ⊎_elim, Bool, true, false, true≢false, Some, List, [], ◌∷◌, ◌++◌, length, take, get_or, refl, sym, ap, ◌∙◌, arith, fold, zero-add}
 use Rattle.std.specs.Prelude.{slice_get, slice_set}
 use Rattle.std.specs.List.{list_any}
@@ -6,7 +6,7 @@ use Rattle.std.proofs.lemmas.List.Folds.{list_any_at}
 use Rattle.std.proofs.lemmas.Option.{slice_get_within, get_or_from_slice_get}
 
 module _ {X : Type 0} where
-  -- what stands in two lists one after the other
+  -- the items of two lists one after the other
   pub in_either : (xs ys : List X) (i : ℕ) (x : X) → slice_get (xs ++ ys) i ≡ Some x → (slice_get xs i ≡ Some x) ⊎ ((k : ℕ) × (i ≡ length xs + k) × (slice_get ys k ≡ Some x))
   in_either [] ys i x e = inr (i, (omega arith), e)
   in_either (z ∷ xs) ys zero x e = inl e
@@ -55,13 +55,13 @@ module _ {X : Type 0} where
   take_all (x ∷ xs) zero l = absurd (omega arith)
   take_all (x ∷ xs) (suc k) l = ap (λ ys. x ∷ ys) (take_all xs k (omega arith))
 
-  -- what stands at a place, whatever else would
+  -- the item at a place, whatever the default is
   pub any_default : (xs : List X) (i : ℕ) (d e : X) → i < length xs → get_or xs i d ≡ get_or xs i e
   any_default [] i d e l = absurd (omega arith)
   any_default (x ∷ xs) zero d e l = refl
   any_default (x ∷ xs) (suc i) d e l = any_default xs i d e (omega arith)
 
-  -- what stands in a list with another item at one place
+  -- the items of a list with another one at one place
   pub set_here : (xs : List X) (i : ℕ) (x : X) → i < length xs → slice_get (slice_set xs i x) i ≡ Some x
   set_here [] i x l = absurd (omega arith)
   set_here (y ∷ xs) zero x l = refl
@@ -79,7 +79,7 @@ module _ {X : Type 0} where
   set_long (y ∷ xs) zero x = refl
   set_long (y ∷ xs) (suc i) x = ap (λ k. suc k) (set_long xs i x)
 
-  -- something stands below the length
+  -- there is an item at each place below the length
   pub is_there : (xs : List X) (i : ℕ) → i < length xs → (x : X) × (slice_get xs i ≡ Some x)
   is_there [] i l = absurd (omega arith)
   is_there (x ∷ xs) zero l = (x, refl)

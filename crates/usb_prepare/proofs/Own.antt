@@ -21,7 +21,7 @@ pub record AreOwn (d : ℕ) (l : List Shape) : Type 0 where
   pub once : (i j : ℕ) (x y : Shape) → slice_get l i ≡ Some x → slice_get l j ≡ Some y → x.address ≡ y.address → i ≡ j
   pub few : length l ≤ 2000
 
--- and beside 00 none has its address
+-- and none has the address 00, so that endpoint 00 may come before them
 record AreBeside (d : ℕ) (l : List Shape) : Type 0 where
   pub device : (i : ℕ) (x : Shape) → slice_get l i ≡ Some x → x.device ≡ d
   pub some : (i : ℕ) (x : Shape) → slice_get l i ≡ Some x → 0 < x.address

@@ -1,4 +1,4 @@
--- The configuration of an attached device is one that its bytes say.
+-- The configuration of an attached device is one that some bytes spell.
 use Rattle.std.proofs.Common.{ℕ, zero, suc, ◌≡◌, ◌<◌, Bool, true, false, cond, eqb, Option, Some, None, Result, Ok, Err, List, [], ◌∷◌, length, take, refl, ap, subst}
 use Rattle.std.specs.Prelude.{slice_index, nat_lt, bytes_eq}
 use Rattle.std.specs.Result.{result_map_both}

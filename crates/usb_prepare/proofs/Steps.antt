@@ -113,7 +113,7 @@ module _ (script : DeviceScript) (address : ℕ) where
     configured c false false at is and be = cc
     configured c false true at is and be = (cc, cc)
 
-  -- the answer to each request is what the stage says, and the state after it
+  -- the answer to each request is that of the stage, and the state after it
   record IsRuled (state : DeviceState) (stage : Stage) : Type 0 where
     pub told : answer_to (request_of address stage) (control_rule script state (request_of address stage) []).reply ≡ said_at script stage
     pub bare : 1 < left_of stage → state.configuration ≡ 0 → (control_rule script state (request_of address stage) []).state.configuration ≡ 0
@@ -223,7 +223,7 @@ module _ (script : DeviceScript) (address : ℕ) where
       is_setup : request_of address stage ≡ setup
       is_setup = is_request address stage setup asked
 
-      -- the answer is the one that the stage says
+      -- the answer is that of the stage
       pub told : answer_to setup (reply_to script calls (asking setup)) ≡ said_at script stage
       told = ap (answer_to setup) (enumerated script calls setup [] other few)
           ∙ (ap (λ s. answer_to s (control_rule script (state_after script calls) s []).reply) (sym is_setup) ∙ ruled.told)

@@ -40,6 +40,6 @@ attached_is s i ds x all o same near at a is =
     let zero_i : 0 + i ≡ i = omega arith in
     is ∙ (ap (λ l. get_or l i o) (a ∙ ap (attached_from 0) (sym same)) ∙ (attached_get 0 i ds x o near ∙ ((λ j. attached_as (zero_i j) (get_or ds i x)) ∙ ap (attached_as i) (sym at))))
 
--- few endpoints stand in front of a device's
+-- few endpoints come before a device's
 pub front_few : (s : Scene) → IsWellFormed s → (i : ℕ) (l : List Shape) → l ≡ shapes_from 0 (take i s.devices) → length l ≤ 32000
 front_few s good i l is = let few = few_ends s good in let within = first_within s good i in let long = ap (λ (k : List Shape). length k) is in omega arith

@@ -1,4 +1,4 @@
--- What becomes of an enumeration with one answer more.
+-- An enumeration after one answer more.
 use Rattle.std.proofs.Common.{ℕ, ◌≡◌, ◌+◌, ◌<◌, ◌≤◌, false, eqb, Some, None, Result, Ok, Err, List, [], ◌∷◌, ◌++◌, length, take, refl, sym, ap, ◌∙◌, subst, arith}
 use Rattle.std.specs.Prelude.{bytes_eq, OnOk}
 use Rattle.std.specs.Result.{result_map_both}

@@ -56,7 +56,7 @@ abbrev pub faults_from : ℕ → List SceneDevice → List (Option EnumFault)
 faults_from d [] = []
 faults_from d (device ∷ devices) = fault_as d device ∷ faults_from (d + 1) devices
 
--- a device that was enumerated so
+-- a device that was enumerated with this result
 abbrev pub one_of : Scripted → Result Attached EnumFault → EnumeratedDevice
 one_of device (Ok a) = record { device = device; attached = Some a; fault = None }
 one_of device (Err fault) = record { device = device; attached = None; fault = Some fault }

@@ -1,4 +1,4 @@
--- The enumeration of a scripted device: what it says to the six requests, and what they yield.
+-- The enumeration of a scripted device: what it replies to the six requests, and what they yield.
 use Rattle.std.specs.Prelude.{ℕ, zero, suc, ◌≡◌, List, [], take, Option, Some, None, Result, Ok, Err}
 use Rattle.usb_types.specs.declared.errno.Errno.TheVariants.{EPIPE}
 use Rattle.usb_types.specs.declared.errno.Code.TheVariants.{Zero, Fault}
@@ -19,7 +19,7 @@ abbrev pub config_said : Option (List ℕ) → ℕ → Answer
 config_said None n = answer [] (Fault EPIPE)
 config_said (Some bytes) n = answer (take n bytes) Zero
 
--- what it says to the request of each stage: so much of a descriptor as is asked for
+-- what it replies to the request of each stage: as much of a descriptor as is asked for
 abbrev pub said_at : DeviceScript → Stage → Answer
 said_at script Fresh = answer (take 8 (desc_of script)) Zero
 said_at script (Begun head) = answer [] Zero

@@ -40,7 +40,7 @@ requests_of Printer i = id_request i ∷ []
 abbrev pub asking : Setup → Call
 asking setup = record { address = 0; question = Ask setup [] }
 
--- no reply ends a probe, and so does a Nak, since nobody asks again; a Stall is passed over
+-- an Error ends a probe, and so does a Nak, since nobody asks again; a Stall is passed over
 abbrev pub ends_probe : Reply → Bool
 ends_probe Nak = true
 ends_probe Error = true
@@ -97,7 +97,7 @@ abbrev pub with_probe : DeviceScript → ℕ → Probing → Alt → Probing
 with_probe script device p alt =
     probed_by script p (pool_after p.board p.pool profile_rows device alt.number) (probed p.board p.pool profile_rows device alt.number)
 
--- the probes of all interfaces of a device, in the order in which they stand
+-- the probes of all interfaces of a device, in descriptor order
 abbrev pub probed_all : DeviceScript → ℕ → ConfigTree → Probing → Probing
 probed_all script device config p = fold (with_probe script device) p (interfaces_of config)
 

@@ -20,7 +20,7 @@ use Rattle.usb_scene.specs.WellFormed.{AreGiven}
 use Rattle.usb_prepare.specs.Enumerated.{after}
 use Rattle.usb_prepare.specs.Prepared.{requests_heard}
 
--- the code that a reply ends a control transfer with; nobody asks again where the device has nothing to say
+-- the code that a reply ends a control transfer with; nobody asks again after a Nak
 abbrev pub code_of : Reply → Code
 code_of Ack = Zero
 code_of (Packet bytes) = Zero
@@ -70,7 +70,7 @@ pub record IsAt (script : DeviceScript) (address k : ℕ) (stage : Stage) (calls
   pub bare : 0 < left_of stage → (state_after script calls).configuration ≡ 0
   pub named : left_of stage ≤ 4 → (state_after script calls).address ≡ address
 
--- what becomes of it with one request more: the next stage, or the fault that ends it
+-- the enumeration after one request more: the next stage, or the fault that ends it
 abbrev pub GoesOn : DeviceScript → ℕ → ℕ → Stage → List Call → Result (Unit {0}) EnumFault → Type 0
 GoesOn script address k stage calls (Ok done) = IsAt script address (k + 1) stage calls
 GoesOn script address k stage calls (Err Memory) = Unit {0}

@@ -34,7 +34,7 @@ fn is_raw(kind: Kind) -> bool
     matches!(kind, Kind::Raw)
 }
 
-// A device that was enumerated so.
+// A device that was enumerated with this result.
 fn enumerated(device: Scripted<'_>, told: Result<Attached, EnumFault>) -> EnumeratedDevice<'_>
     ensures { result ≡ one_of device.entry told }
 {

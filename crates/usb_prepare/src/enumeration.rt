@@ -14,7 +14,7 @@ use usb_device::Scripted;
 use usb_types::{Code, Errno, Memory};
 use usb_xfer::{CtrlReply, Device};
 
-// The code of a control transfer. Nobody asks again where a device has nothing to say.
+// The code of a control transfer. Nobody asks again after a Nak.
 fn code_of(reply: CtrlReply) -> Code
     ensures { result ≡ code_heard reply }
 {
@@ -35,7 +35,7 @@ fn count_of(reply: CtrlReply) -> u32
     }
 }
 
-// Asks for a control transfer without data that go out. Answers its code and how many bytes stand in the room.
+// Asks for a control transfer without data that go out. Answers its code and how many bytes are in the room.
 fn ask(device: &mut Scripted<'_>, setup: Setup, room: &mut [u8]) -> (Code, usize)
     ensures size { length room.new ≡ length room.old }
     ensures within { result.1 ≤ length room.new }

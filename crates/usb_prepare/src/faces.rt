@@ -13,7 +13,7 @@ use usb_ctrl::{Attached, EnumFault};
 use usb_desc::{Alt, ConfigTree};
 use usb_types::{List, Memory};
 
-// Why nobody has an interface whose probe went so.
+// Why no driver has an interface, by how its probe went.
 fn not_taken(probe: Probe) -> Taken
     ensures { result ≡ taken_by None probe }
 {
@@ -25,7 +25,7 @@ fn not_taken(probe: Probe) -> Taken
     }
 }
 
-// Who has an interface at the end, whose probe went so.
+// The driver that has an interface at the end, or why none has, by how its probe went.
 fn taken(holder: Option<Driver>, probe: Probe) -> Taken
     ensures { result ≡ taken_by holder probe }
 {
@@ -47,7 +47,7 @@ fn face(board: &Board, device: u32, alt: &Alt, probe: Probe) -> InterfaceFound
     }
 }
 
-// The interfaces of a configuration, in the order in which they stand, each with how its probe went.
+// The interfaces of a configuration, in descriptor order, each with how its probe went.
 fn faces(
     alloc: Global,
     board: &Board,

@@ -45,7 +45,7 @@ pub enum Found {
     Attached {
         vendor: u16,
         product: u16,
-        /// Its interfaces, in the order in which they stand.
+        /// Its interfaces, in descriptor order.
         faces: List<InterfaceFound>,
     },
     /// Why its enumeration ended.

@@ -1,4 +1,4 @@
-//! What a scene prepares before its run: its devices are enumerated, their interfaces are probed, and each URB gets its
+//! What is prepared before the run of a scene: devices are enumerated, their interfaces are probed, and each URB gets its
 //! home.
 #![tactic(auto)]
 

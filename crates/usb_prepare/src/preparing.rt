@@ -1,4 +1,4 @@
-//! What a scene prepares, as one call.
+//! The preparation of a scene, as one call.
 ghost use Rattle.std.specs.Prelude.{◌≡◌, ◌≤◌, ◌<◌, [], replicate, None, length, IfOk};
 ghost use Rattle.usb_scene.specs.WellFormed.{IsWellFormed};
 ghost use Rattle.usb_prepare.specs.Prepared.{attached_from, board_of, pool_of, found_of, probes_of};

@@ -68,7 +68,7 @@ fn count_moved(reply: CtrlReply) -> Option<u32>
 }
 
 // Asks for the id of a printer, GET_DEVICE_ID (printer class 1.1 §4.2.1), with the interface in the high byte. Answers how
-// many bytes of it stand in the room, where the probe goes on.
+// many bytes of it are in the room, where the probe goes on.
 fn ask_id(device: &mut Scripted<'_>, interface: u8, room: &mut [u8]) -> Option<usize>
     requires room { 1024 ≤ length room.old }
     ensures size { length room.new ≡ length room.old }
@@ -82,7 +82,7 @@ fn ask_id(device: &mut Scripted<'_>, interface: u8, room: &mut [u8]) -> Option<u
     Some((count as usize).min(room.len()))
 }
 
-// Asks the requests of a driver's probe, up to the first that ends it. Answers how many bytes of an id stand in the room,
+// Asks the requests of a driver's probe, up to the first that ends it. Answers how many bytes of an id are in the room,
 // where none did.
 fn ask_each(
     device: &mut Scripted<'_>,
@@ -158,7 +158,7 @@ impl Bindings {
         }
     }
 
-    // The numbers of a device's interfaces, in the order in which they stand.
+    // The numbers of a device's interfaces, in descriptor order.
     fn numbers(&self, alloc: Global, number: u32) -> Result<List<u8>, Memory>
         ensures { IfOk result (λ numbers. numbers ≡ numbers_of (attached_at self.now.board number)) }
     {
@@ -168,7 +168,7 @@ impl Bindings {
         }
     }
 
-    /// Probes each interface of a device, in the order in which they stand. Answers how each probe went.
+    /// Probes each interface of a device, in descriptor order. Answers how each probe went.
     pub fn probe_all(
         &mut self,
         alloc: Global,

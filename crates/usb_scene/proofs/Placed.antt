@@ -27,7 +27,7 @@ map_some : {X Y : Type 0} (f : X → Y) (o : Option X) (y : Y) → option_map f 
 map_some f None y h = cc
 map_some f (Some x) y h = (x, refl, cc)
 
--- what is said by one statement is said by an equal one
+-- equal statements have the same first word
 said_as : (k : Keyword) (x said : Statement) → x ≡ said → keyword_said x ≡ k → keyword_said said ≡ k
 said_as k x said e h = ap keyword_said (sym e) ∙ h
 

@@ -75,7 +75,7 @@ joined_push said [] x = refl
 joined_push said (a ∷ []) x = refl
 joined_push said (a ∷ b ∷ xs) x = ap (λ ys. a ∷ ys) (joined_push said (b ∷ xs) x)
 
--- answers at another address stand after the last ones
+-- answers at another address come after the last ones
 pub joined_other : (said : Answers) (xs : List Answers) (last : Answers) → eqb last.address said.address ≡ false
     → joined said (xs ++ last ∷ []) ≡ (xs ++ last ∷ []) ++ said ∷ []
 joined_other said xs last other =

@@ -47,7 +47,7 @@ home_of : (s : Scene) (o : Option ℕ) (address : ℕ) → is_home (numbered_dev
 home_of s None address h = cc
 home_of s (Some n) address h = has_home address (slice_get s.devices n) h
 
--- a scene whose devices change while nothing else stands
+-- a scene whose devices change while it has nothing else
 devices_sound : (s : Scene) (devices : List SceneDevice) → in_devices s ≡ true → length devices ≤ 16 → Each IsDevice devices → Once (λ (d : SceneDevice). d.name) devices
     → IsSound s → IsSound (record s { devices = devices })
 devices_sound s devices place few each once h =

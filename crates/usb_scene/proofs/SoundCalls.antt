@@ -33,7 +33,7 @@ use Rattle.usb_scene.proofs.Pushed.{Each, all_last, Once, once_last}
 abbrev pub IsNotServer : SceneThread → Type 0
 IsNotServer thread = bytes_eq thread.name (codes "server") ≡ false
 
--- all that `IsWellFormed` says but the totals
+-- all of `IsWellFormed` except the totals
 pub record IsFormed (s : Scene) : Type 0 where
   pub few_devices : length s.devices ≤ 16
   pub few_urbs : length s.urbs ≤ 256

@@ -32,7 +32,7 @@ abbrev IsGood : Reading → Type 0
 IsGood None = Unit {0}
 IsGood (Some so_far) = IsSound so_far.scene × HasTotals so_far.scene
 
--- what is known of a statement that stands on a good line
+-- what is known of the statement on a good line
 record IsPlaced (so_far : SoFar) (said : Statement) : Type 0 where
   place : may_stand so_far.scene (keyword_said said) ≡ true
   sayable : IsSayable said

@@ -1,4 +1,4 @@
--- A text of lines reads as the scene that the lines say.
+-- A text of lines that are good in turn is read as the scene of these lines.
 use Rattle.std.proofs.Common.{◌≡◌, ℕ, ◌+◌, ◌-◌, ◌<◌, true, false, cond, eqb, List, [], ◌∷◌, ◌++◌, length, take, get_or, Some, None, Ok, zero, suc, refl, sym, ap, ◌∙◌, arith, append_assoc}
 use Rattle.std.specs.List.{list_all, flat_map}
 use Rattle.std.specs.Prelude.{codes}
@@ -54,7 +54,7 @@ line_words-spaced : (texts : List (List ℕ)) → AreWords texts → list_all is
 line_words-spaced texts h p =
     ap line_words (without_return-plain (spaced texts) p) ∙ ap (λ t. cond t (Some (words (spaced texts))) None) p ∙ ap Some (words-spaced texts h)
 
--- what a line makes of what was said so far
+-- what is read so far, after a line
 words_read-said : (so_far : SoFar) (n : ℕ) (texts : List (List ℕ)) (statement : Statement) → said_by so_far texts ≡ Ok statement
     → words_read (Some so_far) n texts ≡ Ok (Some (grown_by so_far n statement))
 words_read-said so_far n [] statement h = cc

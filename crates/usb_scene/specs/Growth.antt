@@ -59,7 +59,7 @@ with_bytes Id bytes device = record device { script = record device.script { id 
 abbrev pub with_port : ℕ → SceneDevice → SceneDevice
 with_port status device = record device { script = record device.script { port = status } }
 
--- one list of two of one address
+-- two lists of answers of one address, joined
 abbrev pub together : Answers → Answers → Answers
 together first next = record first { items = first.items ++ next.items }
 
@@ -178,12 +178,12 @@ port_with has_port (say.Device name kind) = false
 port_with has_port (say.Port status) = true
 port_with has_port _ = has_port
 
--- what the lines say after one more
+-- what is read so far after one line more
 abbrev pub grown_by : SoFar → ℕ → Statement → SoFar
 grown_by so_far line statement =
     record { scene = scene_with so_far.scene line statement; has_port = port_with so_far.has_port statement }
 
--- nothing but the header stands
+-- nothing but the header was read
 abbrev pub nothing_said : SoFar
 nothing_said = record { scene = empty_scene; has_port = false }
 

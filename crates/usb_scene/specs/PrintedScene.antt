@@ -1,4 +1,4 @@
--- The text of a scene that is printed from what its lines say.
+-- The text of a scene that is printed from its statements.
 use Rattle.std.specs.Prelude.{◌≡◌, ℕ, ◌+◌, true, List, [], ◌∷◌, map, None}
 use Rattle.usb_scene.specs.declared.scene.Scene.{Scene}
 use Rattle.usb_statement.specs.declared.statement.Statement.{Statement}
@@ -9,13 +9,13 @@ use Rattle.usb_scene.specs.Rules.{SoFar, may_stand, statement_cause}
 use Rattle.usb_scene.specs.Growth.{grown_by}
 use Rattle.usb_scene.specs.SceneLaws.{Said, text_of}
 
--- a statement that may come after what was said so far
+-- a statement that may come after what was read so far
 pub record IsAllowed (so_far : SoFar) (statement : Statement) : Type 0 where
   pub sayable : IsSayable statement
   pub place : may_stand so_far.scene (keyword_said statement) ≡ true
   pub no_cause : statement_cause so_far statement ≡ None
 
--- statements after line n may come one after another, and the last of them leaves this scene
+-- statements after line n may come one after another, and the scene is this one after the last of them
 abbrev pub AllowedInTurn : SoFar → ℕ → List Statement → Scene → Type 0
 AllowedInTurn so_far n [] last = so_far.scene ≡ last
 AllowedInTurn so_far n (statement ∷ statements) last =

@@ -27,7 +27,7 @@ abbrev pub formed : SoFar → Option Statement → Result Statement Cause
 formed so_far None = Err cause.Form
 formed so_far (Some statement) = allowed statement (statement_cause so_far statement)
 
--- what a line says, whose first word is known and belongs in this place
+-- the statement on a line, whose first word is known and belongs in this place
 abbrev pub in_place : SoFar → Option Keyword → List (List ℕ) → Result Statement Cause
 in_place so_far None rest = Err cause.Word
 in_place so_far (Some keyword) rest =
@@ -45,7 +45,7 @@ abbrev pub grown : SoFar → ℕ → Result Statement Cause → Result Reading C
 grown so_far line (Ok statement) = Ok (Some (grown_by so_far line statement))
 grown so_far line (Err c) = Err c
 
--- what the words of a line make of what is read so far
+-- what is read so far, after a line of these words
 abbrev pub words_read : Reading → ℕ → List (List ℕ) → Result Reading Cause
 words_read reading line [] = Ok reading
 words_read None line (first ∷ rest) = if is_header (first ∷ rest) then Ok (Some nothing_said) else Err cause.Header

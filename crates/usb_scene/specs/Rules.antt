@@ -35,7 +35,7 @@ use Rattle.usb_scene.specs.declared.cause.Cause.TheVariants as cause
 use Rattle.usb_statement.specs.Statements.{is_empty}
 use Rattle.usb_scene.specs.WellFormed.{is_raw, is_printer, is_packet, held_on, replies_of, all_replies, all_calls}
 
--- what the lines so far say: the scene, and whether the device whose lines are being read has its `port` line
+-- what was read so far: the scene, and whether the device whose lines are being read has its `port` line
 pub record SoFar : Type 0 where
   pub scene : Scene
   pub has_port : Bool
@@ -160,7 +160,7 @@ abbrev pub is_short : UrbOption → Bool
 is_short Short = true
 is_short _ = false
 
--- each option stands at most once
+-- each option is given at most once
 abbrev pub are_once : List UrbOption → Bool
 are_once options = nat_le (count_by is_len options) 1 && nat_le (count_by is_again options) 1 && nat_le (count_by is_short options) 1
 
@@ -243,7 +243,7 @@ carries_within (made.SendBreak ms) = nat_le ms 65535
 carries_within (made.Print bytes) = nat_le (length bytes) 16384
 carries_within _ = true
 
--- one call more may stand in the scripts
+-- there is room for one call more in the scripts
 abbrev pub has_call_left : Scene → Bool
 has_call_left scene = nat_lt (all_calls scene) 4096
 
@@ -278,7 +278,7 @@ may_call scene (say.Alone bare.Down) = is_hub (last_thread scene)
 may_call scene (say.Alone bare.Up) = is_hub (last_thread scene)
 may_call scene _ = true
 
--- the first cause against what a line says, if there is one
+-- the first cause against a statement, if there is one
 abbrev pub statement_cause : SoFar → Statement → Option Cause
 statement_cause so_far statement =
     if not (fits_device so_far.scene statement) then Some cause.Form

@@ -34,17 +34,17 @@ pub record LacksHeader (bytes : List ℕ) (n : ℕ) : Type 0 where
   pub good : AreGood None 0 (raw_lines bytes) None
   pub number : n ≡ max (length (raw_lines bytes)) 1
 
--- all lines are good, the header is among them, and together they say this scene
+-- all lines are good, the header is among them, and together they give this scene
 pub record HasGoodLines (bytes : List ℕ) (scene : Scene) : Type 0 where
   pub so_far : SoFar
   pub good : AreGood None 0 (raw_lines bytes) (Some so_far)
   pub said : so_far.scene ≡ scene
 
--- a line of words, and what it says
+-- a line of words, and its statement
 abbrev pub Said : Type 0
 Said = List (List ℕ) × Statement
 
--- what words say after what was said so far, against which there is no cause
+-- the statement of these words after what was read so far, where there is no cause against it
 abbrev pub said_by : SoFar → List (List ℕ) → Result Statement Cause
 said_by so_far [] = Err cause.Form
 said_by so_far (first ∷ rest) = in_place so_far (keyword_of first) rest
@@ -54,7 +54,7 @@ pub record IsSaid (so_far : SoFar) (line : Said) : Type 0 where
   pub plain : list_all is_plain (spaced line.0) ≡ true
   pub says : said_by so_far line.0 ≡ Ok line.1
 
--- lines after line n say this, one after another, and the last of them leaves this scene
+-- lines after line n have these statements, one after another, and the scene is this one after the last of them
 abbrev pub SaidInTurn : SoFar → ℕ → List Said → Scene → Type 0
 SaidInTurn so_far n [] last = so_far.scene ≡ last
 SaidInTurn so_far n (line ∷ lines) last = IsSaid so_far line × SaidInTurn (grown_by so_far (n + 1) line.1) (n + 1) lines last

@@ -1,5 +1,5 @@
--- What holds of every scene that is read, beyond its text: numbers are those of things that are there, names stand
--- once, sizes and counts are within their limits, and no script withdraws a reject that it does not hold.
+-- What holds of every scene that is read, beyond its text: numbers are those of things that are there, names are
+-- unique, sizes and counts are within their limits, and no script withdraws a reject that it does not hold.
 use Rattle.std.specs.Prelude.{ℕ, ◌≡◌, ◌≢◌, ◌-◌, ◌<◌, ◌≤◌, ◌^◌, ◌⊎◌, ◌==◌, ◌&&◌, Bool, true, false, if◌then◌else◌, List, [], ◌∷◌, ◌++◌, length, slice_get, slice_index, sum_by, codes, Option, Some, None}
 use Rattle.std.specs.List.{All, list_any}
 use Rattle.std.specs.Str.{bytes_eq}
@@ -38,7 +38,7 @@ abbrev pub IsShort : What → Type 0
 IsShort (Packet bytes) = length bytes ≤ 1024
 IsShort _ = Unit {0}
 
--- a reply of an address that goes in, or out
+-- a reply of an IN address, or of an OUT address
 abbrev pub IsItemOf : Bool → What → Type 0
 IsItemOf goes Ack = goes ≡ false
 IsItemOf goes Nak = Unit {0}

@@ -18,7 +18,7 @@ pub enum Cause {
     Form,
     /// A name or an address that is not declared.
     Name,
-    /// A name, an endpoint or an option that stands before.
+    /// A name, an endpoint, a line or an option that was given before.
     Twice,
     /// A limit is passed.
     Limit,

@@ -1,4 +1,4 @@
-//! A scene that grows by its lines, within the limits of what may stand in all of it.
+//! A scene that grows by its lines, within the limits of the whole.
 ghost use Rattle.std.specs.Prelude.{◌≡◌, nat_lt, if◌then◌else◌, is_some, IfOk, IsTrue, None, true};
 ghost use Rattle.usb_statement.specs.Statements.{keyword_said};
 ghost use Rattle.usb_scene.specs.Rules.{may_stand, raises, urb_number, named_urb, named_target, urb_target, names_stand, is_new, held_now, is_low, is_within, holds_reject, statement_cause};
@@ -277,7 +277,7 @@ impl Draft {
         }
     }
 
-    /// The first cause against what a line says, if there is one.
+    /// The first cause against a statement, if there is one.
     pub fn cause(&self, statement: &Statement) -> Option<Cause>
         ensures { result ≡ statement_cause self.now statement.now }
     {
@@ -298,7 +298,7 @@ impl Draft {
         }
     }
 
-    /// Adds to the scene what a line says.
+    /// Adds to the scene what was read from a line.
     pub fn with(self, alloc: Global, line: u32, statement: Statement) -> Result<Draft, Memory>
         requires place { may_stand self.scene (keyword_said statement) ≡ true }
         requires allowed { statement_cause self statement ≡ None }

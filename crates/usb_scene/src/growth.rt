@@ -238,7 +238,7 @@ fn declare(scene: &mut Scene, alloc: Global, statement: Statement) -> Result<(),
     }
 }
 
-/// Adds to the scene what a line says, which calls this URB or interface, if any.
+/// Adds to the scene what was read from a line, which calls this URB or interface, if any.
 pub fn add(
     scene: &mut Scene,
     alloc: Global,

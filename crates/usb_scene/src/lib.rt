@@ -1,4 +1,4 @@
-//! The text of a scene: its grammar, its faults, and the scene that it says.
+//! The text of a scene: its grammar, its faults, and the scene that is read from it.
 #![tactic(auto)]
 
 mod call;

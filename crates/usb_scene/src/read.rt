@@ -43,7 +43,7 @@ fn is_header(line: &[u8]) -> bool
     }
 }
 
-// What a line says by its first word and the line after it, where there is no cause against it.
+// The statement on a line, by its first word and the line after it, where there is no cause against it.
 #[tactic(auto, using(crate::proofs::Placed::place_said))]
 fn checked(alloc: Global, draft: &Draft, first: &[u8], rest: &[u8]) -> Result<Statement, LineFault>
     ensures exact { LineGives result (in_place draft.now (keyword_of first.now) (words rest.now)) }

@@ -1,4 +1,4 @@
-//! Where a line may stand, what is declared before it, and which thread may call the hub.
+//! Where a line may stand, what is declared before it, and which thread may make calls of the hub.
 ghost use Rattle.std.specs.Prelude.{◌≡◌, ◌<◌, ◌≤◌, ◌==◌, ◌&&◌, ◌||◌, not, is_some, codes, nat_le, count_by, length, IfSome};
 ghost use Rattle.std.specs.List.{list_all, list_any};
 ghost use Rattle.std.specs.Str.{bytes_eq};
@@ -104,7 +104,7 @@ fn has_no_packet(items: &[Item]) -> bool
     items.iter().all(|item| !is_packet(&item.what))
 }
 
-/// Whether the device whose lines are being read can give what a line says that it answers.
+/// Whether the device whose lines are being read can give the answers on a line.
 pub fn fits_device(scene: &Scene, statement: &Statement) -> bool
     ensures { result ≡ fits_device scene.now statement.now }
 {
@@ -269,7 +269,7 @@ fn has_one_short(options: &[UrbOption]) -> bool
     count <= 1
 }
 
-/// Whether each option stands at most once.
+/// Whether each option is given at most once.
 pub fn are_once(options: &[UrbOption]) -> bool
     ensures { result ≡ are_once options.now }
 {

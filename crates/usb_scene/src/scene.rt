@@ -1,4 +1,4 @@
-//! What a scene says.
+//! A scene as data.
 use usb_types::{Buf, List, Role};
 use usb_xfer::DeviceScript;
 

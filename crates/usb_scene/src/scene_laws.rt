@@ -18,17 +18,17 @@ pub fn first_bad_line_is_reported()
     ensures { (bytes : List ℕ) (n : ℕ) (c : Cause) → IsFirstBad bytes n c ⊎ (LacksHeader bytes n × (c ≡ Cause.Header)) → scene_of bytes ≡ Err (n, c) }
 {}
 
-/// What is read has no bad line, and its lines say the scene.
+/// What is read has no bad line, and is the scene of its lines.
 pub fn reads_good_lines()
     ensures { (bytes : List ℕ) (scene : Scene) → scene_of bytes ≡ Ok scene → HasGoodLines bytes scene }
 {}
 
-/// A text without a bad line is read, as the scene that its lines say.
+/// A text without a bad line is read, as the scene of its lines.
 pub fn good_lines_are_read()
     ensures { (bytes : List ℕ) (scene : Scene) → HasGoodLines bytes scene → scene_of bytes ≡ Ok scene }
 {}
 
-/// A text of lines reads as the scene that the lines say.
+/// A text of lines that are good in turn is read as the scene of these lines.
 pub fn text_reads_back()
     ensures { (lines : List Said) (scene : Scene) → SaidInTurn nothing_said 1 lines scene → scene_of (text_of lines) ≡ Ok scene }
 {}

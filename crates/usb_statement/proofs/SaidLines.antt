@@ -1,4 +1,4 @@
--- What holds of what a line says.
+-- What holds of a statement that is read from a line.
 use Rattle.std.proofs.Common.{◌≡◌, ℕ, true, not, List, [], ◌∷◌, Some, subst}
 use Rattle.std.specs.Prelude.{◌&&◌}
 use Rattle.std.specs.List.{All}
@@ -177,7 +177,7 @@ said_on_interface which (d ∷ i ∷ texts) st h =
       carried = said_carried which texts call e3;
     }))))
 
--- what a line says is what some line can say
+-- a statement that was read from a line can be printed
 pub said_sayable : (keyword : Keyword) (texts : List (List ℕ)) (st : Statement) → statement_of keyword texts ≡ Some st → IsSayable st
 said_sayable word.Device texts st h = said_device texts st h
 said_sayable word.Ep texts st h = said_ep texts st h

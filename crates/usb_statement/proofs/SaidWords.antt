@@ -1,4 +1,4 @@
--- What holds of what a word says.
+-- What holds of what is read from a word.
 use Rattle.std.proofs.Common.{◌≡◌, ℕ, ◌<◌, ◌≤◌, Bool, true, false, cond, eqb, List, [], ◌∷◌, ◌++◌, length, take, Option, Some, None, refl, arith, subst, lit≤}
 use Rattle.std.specs.Prelude.{nat_le, ◌&&◌, codes, option_and_then}
 use Rattle.std.specs.Option.{option_map}

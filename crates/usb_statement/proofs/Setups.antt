@@ -29,7 +29,7 @@ said_if : (t : Bool) (digits : List ℕ) → IsSetup (cond t (result_ok (decode_
 said_if true digits = eight_decoded digits (decode_sized digits 8) refl
 said_if false digits = tt
 
--- what words say is a setup packet
+-- what words spell is a setup packet
 pub said_setup : (texts : List (List ℕ)) → IsSetup (setup_first texts)
 said_setup [] = tt
 said_setup (text ∷ texts) = said_if (bytes_eq (take 6 text) (codes "setup:")) (drop 6 text)

@@ -1,4 +1,4 @@
--- A call on an interface that a driver has, as a line says it.
+-- A call on an interface that a driver has, as it is read from a line.
 use Rattle.std.specs.Prelude.{ℕ, ◌==◌, ◌&&◌, ◌||◌, nat_le, if◌then◌else◌, Bool, List, [], ◌∷◌, Option, Some, None}
 use Rattle.std.specs.Option.{option_map}
 use Rattle.usb_text.specs.Kinds.{number_of, byte_of}

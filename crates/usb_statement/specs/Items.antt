@@ -1,4 +1,4 @@
--- ITEM: what a device answers, as an `answer` line says it.
+-- ITEM: what a device answers, as it is read from an `answer` line.
 use Rattle.std.specs.Prelude.{ℕ, ◌==◌, ◌&&◌, ◌||◌, nat_le, if◌then◌else◌, List, [], ◌∷◌, Option, Some, None, codes, Bool, not, true}
 use Rattle.std.specs.Option.{option_map}
 use Rattle.std.specs.List.{list_all}
@@ -46,7 +46,7 @@ items_of (text ∷ texts) = do
   items ← items_of texts
   Some (item ∷ items)
 
--- an endpoint that goes in gives packets, one that goes out acknowledges them, and both refuse
+-- an IN endpoint gives packets, an OUT endpoint acknowledges them, and both refuse
 abbrev pub is_reply_of : Bool → What → Bool
 is_reply_of goes Ack = not goes
 is_reply_of goes Nak = true

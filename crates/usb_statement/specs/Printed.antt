@@ -1,4 +1,4 @@
--- The line that says a statement.
+-- The line of a statement.
 use Rattle.std.specs.Prelude.{ℕ, List, [], ◌∷◌, ◌++◌, map, Option, Some, None, codes, decimal}
 use Rattle.std.specs.List.{flat_map}
 use Rattle.usb_types.specs.declared.urb.Role.{Role}

@@ -1,4 +1,4 @@
--- What holds of every statement that some line says.
+-- What holds of every statement that is read from a line.
 use Rattle.std.specs.Prelude.{ℕ, ◌≡◌, ◌<◌, ◌≤◌, ◌^◌, ◌==◌, Bool, true, false, List, length, Option, Some, None}
 use Rattle.std.specs.List.{All}
 use Rattle.usb_machine.specs.declared.layout.EndKind.{EndKind}
@@ -24,7 +24,7 @@ use Rattle.usb_statement.specs.declared.statement.Statement.TheVariants as say
 abbrev pub IsNumber : ℕ → Type 0
 IsNumber n = n < 10 ^ 9
 
--- the address of an endpoint beside 00
+-- the address of an endpoint other than 00
 pub record IsEndAddress (address : ℕ) : Type 0 where
   pub valid : is_address address ≡ true
   pub some : (address == 0) ≡ false
@@ -111,7 +111,7 @@ pub record IsInterfaceLine (call : InterfaceCall) (device : List ℕ) (interface
   pub numbered : IsNumber interface
   pub carried : IsCarried call
 
--- what holds of a statement that some line says
+-- what holds of a statement that is read from a line
 abbrev pub IsSayable : Statement → Type 0
 IsSayable (say.Device name kind) = is_name name ≡ true
 IsSayable (say.Ep address kind size interval) = IsEpLine address kind size interval

@@ -1,4 +1,4 @@
--- The setup packet of a control transfer, as a submit says it.
+-- The setup packet of a control transfer, as it is read from a `submit` line.
 use Rattle.std.specs.Prelude.{ℕ, if◌then◌else◌, List, [], ◌∷◌, take, drop, Option, None, is_some, codes}
 use Rattle.std.specs.Result.{result_ok}
 use Rattle.std.specs.Str.{bytes_eq}
@@ -8,7 +8,7 @@ use Rattle.hex.specs.Hex.{decode_sized}
 abbrev pub setup_of : List ℕ → Option (List ℕ)
 setup_of text = if bytes_eq (take 6 text) (codes "setup:") then result_ok (decode_sized (drop 6 text) 8) else None
 
--- the setup packet that the first of these words says, if it does
+-- the setup packet that the first of these words spells, if it does
 abbrev pub setup_first : List (List ℕ) → Option (List ℕ)
 setup_first [] = None
 setup_first (text ∷ texts) = setup_of text

@@ -1,4 +1,4 @@
--- What a line says by itself: a row of the grammar for each first word.
+-- The statement that is read from a line by itself: a row of the grammar for each first word.
 use Rattle.std.specs.Prelude.{ℕ, ◌==◌, ◌&&◌, if◌then◌else◌, List, [], ◌∷◌, Option, Some, None, codes, Bool, true, false, not}
 use Rattle.std.specs.Option.{option_map}
 use Rattle.std.specs.Str.{bytes_eq}
@@ -101,7 +101,7 @@ device_kind_of text =
     else if bytes_eq text (codes "printer") then Some Printer
     else None
 
--- the address of an endpoint beside 00
+-- the address of an endpoint other than 00
 abbrev pub end_of : List ℕ → Option ℕ
 end_of text = do
   address ← address_of text
@@ -115,7 +115,7 @@ kind_of text =
     else if bytes_eq text (codes "iso") then Some Iso
     else None
 
--- what a submit says to send, if anything
+-- what a submit sends, if anything
 abbrev pub sent_of : List (List ℕ) → Option (Option (List ℕ))
 sent_of [] = Some None
 sent_of (text ∷ texts) = option_map (λ bytes. Some bytes) (kept_data (text ∷ texts))
@@ -124,7 +124,7 @@ sent_of (text ∷ texts) = option_map (λ bytes. Some bytes) (kept_data (text �
 abbrev pub answer_with : ℕ → List Item → Option Statement
 answer_with address items = if not (is_empty items) && are_items_of address items then Some (say.Answer address items) else None
 
--- what a line says, by its first word and the words after it
+-- the statement that is read from a line, by its first word and the words after it
 abbrev pub statement_of : Keyword → List (List ℕ) → Option Statement
 statement_of word.Device (name ∷ kind ∷ []) = do
   name ← name_of name
@@ -162,7 +162,7 @@ statement_of (word.OnInterface which) (device ∷ interface ∷ texts) = do
   Some (say.OnInterface call device interface)
 statement_of _ _ = None
 
--- the first word of the line that says this
+-- the first word of the line of this statement
 abbrev pub keyword_said : Statement → Keyword
 keyword_said (say.Device name kind) = word.Device
 keyword_said (say.Ep address kind size interval) = word.Ep

@@ -1,4 +1,4 @@
-//! What a device answers, as a line says it.
+//! What a device answers, as it is read from a line.
 ghost use Rattle.std.specs.Prelude.{◌≡◌, ◌==◌, not, nat_le, ◌&&◌, ◌||◌, if◌then◌else◌, Some, None, IfOk};
 ghost use Rattle.usb_text.specs.Words.{words};
 ghost use Rattle.usb_xfer.specs.Direction.{goes_in};
@@ -48,7 +48,7 @@ fn item(alloc: Global, word: &[u8]) -> Result<Option<Item>, Memory>
     }
 }
 
-/// The items that a line's words say.
+/// The items that a line's words spell.
 pub fn read_items(alloc: Global, line: &[u8]) -> Result<Option<List<Item>>, Memory>
     ensures { IfOk result (λ items. items ≡ items_of (words line.now)) }
 {

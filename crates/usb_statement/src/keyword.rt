@@ -25,7 +25,7 @@ pub enum UrbCall {
 }
 
 impl UrbCall {
-    /// The word that says the call.
+    /// The word of the call.
     pub fn word(self) -> &'static str
         ensures { result.now ≡ urb_call_text self }
     {
@@ -49,7 +49,7 @@ pub enum BareCall {
 }
 
 impl BareCall {
-    /// The word that says the call.
+    /// The word of the call.
     pub fn word(self) -> &'static str
         ensures { result.now ≡ bare_call_text self }
     {

@@ -1,4 +1,4 @@
-//! What a line of a scene says by itself, and the line that says it.
+//! One line of a scene as a statement, and a statement as its line.
 #![tactic(auto)]
 
 mod interface_call;

@@ -28,7 +28,7 @@ fn number_option(word: &[u8], value: Option<u32>) -> Option<UrbOption>
     }
 }
 
-/// The options that a line's words say.
+/// The options that a line's words spell.
 pub fn read_options(alloc: Global, line: &[u8]) -> Result<Option<List<UrbOption>>, Memory>
     ensures { IfOk result (λ options. options ≡ options_of (words line.now)) }
 {

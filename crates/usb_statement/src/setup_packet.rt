@@ -1,4 +1,4 @@
-//! The setup packet of a control transfer, as a submit says it.
+//! The setup packet of a control transfer, as it is read from a `submit` line.
 ghost use Rattle.std.specs.Prelude.{◌≡◌, take, drop};
 ghost use Rattle.usb_text.specs.Words.{words};
 ghost use Rattle.usb_statement.specs.Setups.{setup_of, setup_first, behind_setup};
@@ -28,7 +28,7 @@ fn setup(word: &[u8]) -> Option<[u8; 8]>
     }
 }
 
-/// The setup packet that the first word of a line says, if it does, and the line after it.
+/// The setup packet that the first word of a line spells, if it does, and the line after it.
 pub fn split_setup(line: &[u8]) -> (Option<[u8; 8]>, &[u8])
     ensures setup { result.0 ≡ setup_first (words line.now) }
     ensures behind { words result.1.now ≡ behind_setup (words line.now) }

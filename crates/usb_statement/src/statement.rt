@@ -1,4 +1,4 @@
-//! What a line of a scene says by itself: its first word, and the words after it by the row of that word.
+//! The statement on a line of a scene by itself: its first word, and the words after it by the row of that word.
 ghost use Rattle.std.specs.Prelude.{◌≡◌, ◌∷◌, [], IfOk};
 ghost use Rattle.usb_text.specs.Words.{words};
 ghost use Rattle.usb_statement.specs.Statements.{device_kind_of, end_of, kind_of, answer_with, statement_of};
@@ -18,7 +18,7 @@ use usb_text::{address, byte, copy, is_name, is_text, next_word, number};
 use usb_types::{Buf, List, Memory};
 use usb_xfer::{Item, Kind};
 
-/// What a line says, by itself.
+/// What is read from a line by itself.
 #[derive(Drop)]
 pub enum Statement {
     Device {
@@ -107,7 +107,7 @@ fn device_of(alloc: Global, line: &[u8]) -> Result<Option<Statement>, Memory>
     }
 }
 
-// The address of an endpoint beside 00.
+// The address of an endpoint other than 00.
 fn end_address(word: &[u8]) -> Option<u8>
     ensures { result ≡ end_of word.now }
 {
@@ -321,7 +321,7 @@ fn on_interface(
     }
 }
 
-/// What a line says, by its first word and the line after it. None where the words do not fit the row.
+/// The statement on a line, by its first word and the line after it. None where the words do not fit the row.
 pub fn read_statement(
     alloc: Global,
     keyword: Keyword,

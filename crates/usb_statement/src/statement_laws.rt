@@ -1,4 +1,4 @@
-//! Laws of what a line says.
+//! Laws of statements.
 ghost use Rattle.std.specs.Prelude.{◌≡◌, ℕ, List, Some, true};
 ghost use Rattle.std.specs.List.{list_all};
 ghost use Rattle.usb_text.specs.Lines.{is_plain};
@@ -14,7 +14,7 @@ pub fn keyword_reads_back()
     ensures { (keyword : Keyword) → keyword_of (keyword_text keyword) ≡ Some keyword }
 {}
 
-/// What a line says is a statement that lines can say.
+/// A statement that was read from a line can be printed.
 pub fn a_read_line_can_be_printed()
     ensures { (keyword : Keyword) (texts : List (List ℕ)) (statement : Statement) → statement_of keyword texts ≡ Some statement → IsSayable statement }
 {}

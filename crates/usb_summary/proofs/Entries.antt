@@ -202,15 +202,15 @@ module _ (q : Event → Answer → Bool) (such : Code → Bool) (gives : Bool) (
 
   -- a handler is counted by the code of its submit, where it asks no question
   pub handler_counted : (s : Scene) (u : ℕ) (back again : Transfer) (o : Outcome) → counted (handled_by s u back again None o) ≡ bit (is_some_of such (again_code o))
-  handler_counted s u back again outcome.Rest = still_counted (rest_entry u back ∷ []) refl
-  handler_counted s u back again (outcome.Asked code) = still_counted (rest_entry u back ∷ []) refl
+  handler_counted s u back again outcome.Rest = still_counted (rest_entry SERVER u back ∷ []) refl
+  handler_counted s u back again (outcome.Asked code) = still_counted (rest_entry SERVER u back ∷ []) refl
   handler_counted s u back again (outcome.Again code) =
-      let rest : List Entry = if is_zero code then [] else rest_entry u again ∷ [] in
+      let rest : List Entry = if is_zero code then [] else rest_entry SERVER u again ∷ [] in
       let both = counted_both (submit_entries SERVER u again code) rest in
       let none : counted rest ≡ 0 = still_counted rest (go (is_zero code)) in
       let here = submit_counted SERVER u again code in
       omega arith
     where
-      go : (b : Bool) → are_still (cond b [] (rest_entry u again ∷ [])) ≡ true
+      go : (b : Bool) → are_still (cond b [] (rest_entry SERVER u again ∷ [])) ≡ true
       go true = refl
       go false = refl

@@ -1,4 +1,4 @@
--- A word is cut at the first byte of a kind that does not stand before it.
+-- A word is cut at the first byte of a kind that does not occur before it.
 use Rattle.std.proofs.Common.{◌≡◌, ℕ, ◌+◌, ◌<◌, Bool, true, false, not, cond, eqb, inl, inr, List, [], ◌∷◌, ◌++◌, length, drop, Some, None, refl, ap, ◌∙◌, arith, length-append}
 use Rattle.std.specs.Prelude.{nat_lt, nat_le, ◌||◌}
 use Rattle.std.specs.List.{prefix_len, list_all}

@@ -1,4 +1,4 @@
--- What is known of the numbers and bytes that words say.
+-- What is known of the numbers and bytes that words spell.
 use Rattle.std.proofs.Common.{◌≡◌, ℕ, ◌<◌, ◌≤◌, ◌^◌, Bool, true, false, cond, eqb, List, [], ◌∷◌, length, take, drop, replicate, Option, Some, None, Ok, Err, refl, sym, ap, ◌∙◌, subst}
 use Rattle.std.specs.Prelude.{nat_le, ◌&&◌, codes, option_and_then, Result}
 use Rattle.std.specs.List.{list_all}
@@ -66,7 +66,7 @@ data_cases true s text bytes h = subst AreBytes (same_Some [] bytes h) (All-nil 
 data_cases false true text bytes h = cc
 data_cases false false text bytes h = spelled_are_bytes text bytes h
 
--- what a word of data says are bytes
+-- what a word of data spells are bytes
 pub data_are_bytes : (text bytes : List ℕ) → data_of text ≡ Some bytes → AreBytes bytes
 data_are_bytes text bytes h = data_cases (bytes_eq text (codes "-")) (eqb (length text) 0) text bytes h
 

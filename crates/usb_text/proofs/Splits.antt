@@ -60,7 +60,7 @@ all_words-first b (c ∷ line) e =
 pub all_words_none : (line : List ℕ) (gap : ℕ) → gap ≡ prefix_len is_blank line → length line ≤ gap → all_words line ≡ []
 all_words_none line gap e h = all_words-gap line ∙ ap all_words (drop_all (run_len is_blank line) line (omega (arith, run_len-prefix_len is_blank line)))
 
--- what stands after the blanks begins with no blank
+-- what follows the blanks begins with no blank
 begins-inner : (line : List ℕ) (b : ℕ) (rest : List ℕ) → drop (run_len is_blank line) line ≡ b ∷ rest → is_blank b ≡ false
 begins-inner [] b rest e = cc
 begins-inner (c ∷ line) b rest e =

@@ -1,4 +1,4 @@
--- DATA: bytes as a word says them.
+-- DATA: the bytes that a word spells.
 use Rattle.std.specs.Prelude.{ℕ, ◌+◌, ◌==◌, ◌&&◌, nat_le, if◌then◌else◌, List, [], length, take, drop, replicate, Option, Some, None, position, option_and_then, codes}
 use Rattle.std.specs.Result.{result_ok}
 use Rattle.std.specs.Str.{bytes_eq}

@@ -1,4 +1,4 @@
-//! The bytes that a word of a scene says.
+//! The bytes that a word of a scene spells.
 ghost use Rattle.std.specs.Prelude.{◌≡◌, ◌<◌, ◌==◌, nat_le, if◌then◌else◌, length, take, drop, position, IfOk, IfSome, None, Some, MatchOption};
 ghost use Rattle.std.specs.Result.{result_ok};
 ghost use Rattle.hex.specs.Hex.{decode_of};
@@ -78,7 +78,7 @@ fn spelled(alloc: Global, word: &[u8]) -> Result<Option<Buf>, Memory>
     }
 }
 
-/// The bytes that a word of data says.
+/// The bytes that a word of data spells.
 pub fn data_bytes(alloc: Global, word: &[u8]) -> Result<Option<Buf>, Memory>
     ensures { IfOk result (λ bytes. bytes ≡ data_of word.now) }
 {

@@ -3,7 +3,7 @@ ghost use Rattle.std.specs.Prelude.{◌≡◌, ◌<◌, ◌≤◌, ◌∷◌, �
 ghost use Rattle.std.specs.List.{list_all, prefix_len};
 ghost use Rattle.usb_text.specs.Lines.{raw_lines, without_return, is_plain};
 
-// How many bytes stand before the first line feed.
+// How many bytes come before the first line feed.
 fn line_len(bytes: &[u8]) -> usize
     ensures exact { result ≡ prefix_len (λ b. not (b == 10)) bytes.now }
     ensures within { result ≤ length bytes.now }

@@ -21,7 +21,7 @@ fn gap_len(line: &[u8]) -> usize
     line.iter().take_while(|b| is_blank(**b)).count()
 }
 
-// How many bytes stand before the first blank.
+// How many bytes come before the first blank.
 fn word_len(line: &[u8]) -> usize
     ensures exact { result ≡ prefix_len (λ b. not (is_blank b)) line.now }
     ensures within { result ≤ length line.now }

@@ -21,7 +21,7 @@ loop-u-preserved c =
       counts = as_many c.args.plain.now c.loop-u.plain c.mark.new.plain c.loop-u.invariant.counts c.mark.ensures.counts;
       so_far = λ s h stands.
           (let x : ℕ → Entry = λ u. mark_entry HUB Shutdown u (unlinking (state_of h u)) in
-          let there : HUB < 2 + (length s.threads + 1) = omega arith in
+          let there : HUB < 2 + (length s.threads + 3) = omega arith in
           let done = c.mark.ensures.marked s (h ++ map x (below n)) (c.loop-u.invariant.so_far s h stands) there in
           each_longer x (λ u. (tt, refl)) c.mark.new.plain (machine_of s) h n
           (subst (λ (a : Code). Stands c.mark.new.plain (machine_of s) ((h ++ map x (below n)) ++ mark_entry HUB Shutdown n a ∷ [])) (done.0 ∙ ap unlinking (each_above x (λ u. (tt, refl)) h n n same)) done.1));

@@ -1,5 +1,6 @@
 use Rattle.std.proofs.Common.{◌≡◌, ◌++◌, ◌∷◌, [], Option, Some, List, refl, sym, ap, ◌∙◌, subst, append_assoc}
 use Rattle.usb_types.specs.declared.errno.Code.{Code}
+use Rattle.usb_machine.specs.declared.entry.TheConstants.{SERVER}
 use Rattle.usb_machine.specs.declared.entry.Entry.{Entry}
 use Rattle.usb_machine.specs.declared.event.Event.TheVariants.{Rest}
 use Rattle.usb_machine.specs.State.{refusal}
@@ -30,7 +31,7 @@ returns-in-Some-clause-acted c = λ s h r stands can at number is posed.
     let a = asked.0 in
     let pose : CanPose s r.urb a = subst (CanPoseAny s r.urb) asked.2 can.asks in
     let same = sym number ∙ number_back s h r can in
-    let x : Entry = rest_entry r.urb (moved_in s r) in
+    let x : Entry = rest_entry SERVER r.urb (moved_in s r) in
     let mid = (enters _ _ _ _ _ c.enter.ensures.entered s (given_after h r) x refl (λ i. Rest record { 0 = sym at i } (same i)) stands (acted s h r can (outcome.Asked asked.1) asked.3).0 tt).1 in
     let got = c.pose.ensures.asked s (given_after h r ++ x ∷ []) r.urb a mid pose asked.4 in
     let gate : asked.1 ≡ submit_answer (shape_fault (shape_at s (home s a.urb)) a.transfer) (refusal (state_of (given_after h r) a.urb))
