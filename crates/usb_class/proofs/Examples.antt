@@ -17,7 +17,8 @@ use Rattle.usb_acm.specs.declared.event.Event.TheVariants.{Rx}
 use Rattle.usb_printer.specs.declared.event.Event.TheVariants.{Id, Job}
 use Rattle.usb_class.specs.Origin.{Origin}
 use Rattle.usb_class.specs.Roles.{role_in, has_number}
-use Rattle.usb_class.specs.Calls.{setup_for, payload_for}
+use Rattle.usb_scene.specs.declared.operation.InterfaceOp.TheVariants as op
+use Rattle.usb_class.specs.InterfaceOps.{setup_for, payload_for}
 use Rattle.usb_class.specs.Handler.{action_of, window_by}
 use Rattle.usb_class.specs.Told.{told_of}
 
@@ -77,9 +78,9 @@ what_has_a_number : (has_number Acm Read0 ≡ true) × (has_number Keyboard Ctl 
 what_has_a_number = (refl, refl, refl)
 
 -- the calls of a serial port with interface 1: 9,600 bits a second with one stop bit, no parity and eight data bits; DTR and RTS; a break of 300 ms
-what_calls_send : (setup_for 25 1 (9600 ∷ 0 ∷ 0 ∷ 8 ∷ []) None ≡ Some (0x21 ∷ 0x20 ∷ 0 ∷ 0 ∷ 1 ∷ 0 ∷ 7 ∷ 0 ∷ []))
-    × (payload_for 25 (9600 ∷ 0 ∷ 0 ∷ 8 ∷ []) None ≡ Some (0x80 ∷ 0x25 ∷ 0 ∷ 0 ∷ 0 ∷ 0 ∷ 8 ∷ []))
-    × (setup_for 26 1 (0 ∷ 0 ∷ 0 ∷ 0 ∷ []) (Some (3 ∷ [])) ≡ Some (0x21 ∷ 0x22 ∷ 3 ∷ 0 ∷ 1 ∷ 0 ∷ 0 ∷ 0 ∷ []))
-    × (payload_for 26 (0 ∷ 0 ∷ 0 ∷ 0 ∷ []) (Some (3 ∷ [])) ≡ Some [])
-    × (setup_for 27 1 (300 ∷ 0 ∷ 0 ∷ 0 ∷ []) None ≡ Some (0x21 ∷ 0x23 ∷ 0x2C ∷ 1 ∷ 1 ∷ 0 ∷ 0 ∷ 0 ∷ []))
+what_calls_send : (setup_for (op.Coding 9600 0 0 8) 1 ≡ Some (0x21 ∷ 0x20 ∷ 0 ∷ 0 ∷ 1 ∷ 0 ∷ 7 ∷ 0 ∷ []))
+    × (payload_for (op.Coding 9600 0 0 8) None ≡ Some (0x80 ∷ 0x25 ∷ 0 ∷ 0 ∷ 0 ∷ 0 ∷ 8 ∷ []))
+    × (setup_for (op.Control 3) 1 ≡ Some (0x21 ∷ 0x22 ∷ 3 ∷ 0 ∷ 1 ∷ 0 ∷ 0 ∷ 0 ∷ []))
+    × (payload_for (op.Control 3) (Some (3 ∷ [])) ≡ Some [])
+    × (setup_for (op.SendBreak 300) 1 ≡ Some (0x21 ∷ 0x23 ∷ 0x2C ∷ 1 ∷ 1 ∷ 0 ∷ 0 ∷ 0 ∷ []))
 what_calls_send = (refl, refl, refl, refl, refl)

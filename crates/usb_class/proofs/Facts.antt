@@ -1,6 +1,6 @@
 -- What the run of a scene needs to know of drivers: when a transfer goes again, with which window, and which URB has which purpose.
 use Rattle.std.proofs.Common.{ℕ, ◌≡◌, ◌+◌, ◌<◌, ◌≤◌, true≢false, Bool, true, false, cond, eqb, Option, Some, None, List, [], ◌∷◌, length, refl, sym, ap, subst, arith}
-use Rattle.std.specs.Prelude.{◌*◌, ◌||◌, find, option_map, option_and_then}
+use Rattle.std.specs.Prelude.{◌*◌, find, option_map, option_and_then}
 use Rattle.std.specs.Option.{option_map_or}
 use Rattle.std.proofs.lemmas.Nat.{mod_below}
 use Rattle.std.proofs.lemmas.Bool.{eqb-true, eqb-false}
@@ -34,7 +34,9 @@ use Rattle.usb_printer.specs.Jobs.{first_window, is_unlink}
 use Rattle.usb_printer.specs.Requests.{question_of}
 use Rattle.usb_class.specs.Origin.{Origin}
 use Rattle.usb_class.specs.Questions.{question_by}
-use Rattle.usb_class.specs.Calls.{role_for, setup_for}
+use Rattle.usb_scene.specs.declared.operation.InterfaceOp.{InterfaceOp}
+use Rattle.usb_scene.specs.declared.operation.InterfaceOp.TheVariants as op
+use Rattle.usb_class.specs.InterfaceOps.{role_for, setup_for}
 use Rattle.usb_class.specs.Roles.{all_roles, has_for, role_in, kept_size}
 use Rattle.usb_class.specs.Handler.{action_of, goes_again, window_by, goes_on, is_ctl}
 use Rattle.usb_class.specs.Core.{IsCore, IsOfDriver, CanComplete}
@@ -238,40 +240,16 @@ abbrev pub IsRequest : Role → Option (List ℕ) → Type 0
 IsRequest Ctl setup = (kind : ℕ) × (rest : List ℕ) × (setup ≡ Some (kind ∷ rest)) × (eqb kind 2 ≡ false)
 IsRequest role setup = setup ≡ None
 
-lights_request : (code i : ℕ) (numbers : List ℕ) (bytes : Option (List ℕ)) (r : Role) → code ≡ 23 → Ctl ≡ r → IsRequest r (setup_for code i numbers bytes)
-lights_request code i numbers bytes r at is =
-    subst (λ n. IsRequest r (setup_for n i numbers bytes)) (sym at) (subst (λ r. IsRequest r (setup_for 23 i numbers bytes)) is (0x21, _, refl, refl))
-
-port_request : (code i : ℕ) (numbers : List ℕ) (bytes : Option (List ℕ)) (r : Role) → (a b c d : Bool) → eqb code 24 ≡ a → eqb code 25 ≡ b → eqb code 26 ≡ c → eqb code 27 ≡ d
-    → cond a (Some Write) (cond (b || c || d) (Some Ctl) None) ≡ Some r → IsRequest r (setup_for code i numbers bytes)
-port_request code i numbers bytes r true b c d ea eb ec ed is = let same : Write ≡ r = cc in
-    subst (λ n. IsRequest r (setup_for n i numbers bytes)) (sym (eqb-true code 24 ea)) (subst (λ r. IsRequest r (setup_for 24 i numbers bytes)) same refl)
-port_request code i numbers bytes r false true c d ea eb ec ed is = let same : Ctl ≡ r = cc in
-    subst (λ n. IsRequest r (setup_for n i numbers bytes)) (sym (eqb-true code 25 eb)) (subst (λ r. IsRequest r (setup_for 25 i numbers bytes)) same (0x21, _, refl, refl))
-port_request code i numbers bytes r false false true d ea eb ec ed is = let same : Ctl ≡ r = cc in
-    subst (λ n. IsRequest r (setup_for n i numbers bytes)) (sym (eqb-true code 26 ec)) (subst (λ r. IsRequest r (setup_for 26 i numbers bytes)) same (0x21, _, refl, refl))
-port_request code i numbers bytes r false false false true ea eb ec ed is = let same : Ctl ≡ r = cc in
-    subst (λ n. IsRequest r (setup_for n i numbers bytes)) (sym (eqb-true code 27 ed)) (subst (λ r. IsRequest r (setup_for 27 i numbers bytes)) same (0x21, _, refl, refl))
-port_request code i numbers bytes r false false false false ea eb ec ed is = cc
-
-printer_request : (code i : ℕ) (numbers : List ℕ) (bytes : Option (List ℕ)) (r : Role) → (a b c : Bool) → eqb code 28 ≡ a → eqb code 29 ≡ b → eqb code 30 ≡ c
-    → cond a (Some Write) (cond (b || c) (Some Ctl) None) ≡ Some r → IsRequest r (setup_for code i numbers bytes)
-printer_request code i numbers bytes r true b c ea eb ec is = let same : Write ≡ r = cc in
-    subst (λ n. IsRequest r (setup_for n i numbers bytes)) (sym (eqb-true code 28 ea)) (subst (λ r. IsRequest r (setup_for 28 i numbers bytes)) same refl)
-printer_request code i numbers bytes r false true c ea eb ec is = let same : Ctl ≡ r = cc in
-    subst (λ n. IsRequest r (setup_for n i numbers bytes)) (sym (eqb-true code 29 eb)) (subst (λ r. IsRequest r (setup_for 29 i numbers bytes)) same (0xA1, _, refl, refl))
-printer_request code i numbers bytes r false false true ea eb ec is = let same : Ctl ≡ r = cc in
-    subst (λ n. IsRequest r (setup_for n i numbers bytes)) (sym (eqb-true code 30 ec)) (subst (λ r. IsRequest r (setup_for 30 i numbers bytes)) same (0x21, _, refl, refl))
-printer_request code i numbers bytes r false false false ea eb ec is = cc
-
-pub call_request : (code : ℕ) (driver : Driver) (r : Role) (i : ℕ) (numbers : List ℕ) (bytes : Option (List ℕ)) → role_for code driver ≡ Some r → IsRequest r (setup_for code i numbers bytes)
-call_request code Keyboard r i numbers bytes is = go (eqb code 23) refl is
-  where
-    go : (a : Bool) → eqb code 23 ≡ a → cond a (Some Ctl) None ≡ Some r → IsRequest r (setup_for code i numbers bytes)
-    go true e f = lights_request code i numbers bytes r (eqb-true code 23 e) cc
-    go false e f = cc
-call_request code Acm r i numbers bytes is = port_request code i numbers bytes r (eqb code 24) (eqb code 25) (eqb code 26) (eqb code 27) refl refl refl refl is
-call_request code Printer r i numbers bytes is = printer_request code i numbers bytes r (eqb code 28) (eqb code 29) (eqb code 30) refl refl refl is
+pub call_request : (asked : InterfaceOp) (driver : Driver) (r : Role) (i : ℕ) → role_for asked driver ≡ Some r → IsRequest r (setup_for asked i)
+call_request (op.Led lights) Keyboard r i is = let same : Ctl ≡ r = cc in subst (λ r. IsRequest r (setup_for (op.Led lights) i)) same (0x21, _, refl, refl)
+call_request op.Write Acm r i is = let same : Write ≡ r = cc in subst (λ r. IsRequest r (setup_for op.Write i)) same refl
+call_request (op.Coding rate stop parity bits) Acm r i is = let same : Ctl ≡ r = cc in subst (λ r. IsRequest r (setup_for (op.Coding rate stop parity bits) i)) same (0x21, _, refl, refl)
+call_request (op.Control lines) Acm r i is = let same : Ctl ≡ r = cc in subst (λ r. IsRequest r (setup_for (op.Control lines) i)) same (0x21, _, refl, refl)
+call_request (op.SendBreak ms) Acm r i is = let same : Ctl ≡ r = cc in subst (λ r. IsRequest r (setup_for (op.SendBreak ms) i)) same (0x21, _, refl, refl)
+call_request op.Print Printer r i is = let same : Write ≡ r = cc in subst (λ r. IsRequest r (setup_for op.Print i)) same refl
+call_request op.Status Printer r i is = let same : Ctl ≡ r = cc in subst (λ r. IsRequest r (setup_for op.Status i)) same (0xA1, _, refl, refl)
+call_request op.SoftReset Printer r i is = let same : Ctl ≡ r = cc in subst (λ r. IsRequest r (setup_for op.SoftReset i)) same (0x21, _, refl, refl)
+call_request _ _ r i is = absurd cc
 
 -- a driver's question: a printer's, with its window, of which nothing is moved, and after which nothing stands
 pub record IsAskable (driver : Driver) (t : Transfer) : Type 0 where

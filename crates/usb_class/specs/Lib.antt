@@ -4,4 +4,4 @@ pub mod Roles
 pub mod Handler
 pub mod Told
 pub mod Core
-pub mod Calls
+pub mod InterfaceOps

@@ -1,12 +1,12 @@
 //! The cores of the class drivers as one type: each completion is dispatched to the bound driver.
 #![tactic(auto)]
 
-mod calls;
 mod class_core;
 mod handler;
+mod interface_ops;
 mod roles;
 
-pub use calls::{payload_for, setup_for, urb_for, window_for};
 pub use class_core::{Core, Told};
 pub use handler::{goes_again, with_window};
+pub use interface_ops::{payload_for, setup_for, urb_for, window_for};
 pub use roles::{has_number, kept_size, role_of};

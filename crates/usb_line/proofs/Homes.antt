@@ -1,14 +1,19 @@
 -- In a well-formed scene each URB has a home, and the home of one of its own takes what a submit sends where its shape has no
 -- fault.
-use Rattle.std.proofs.Common.{ℕ, zero, suc, ◌≡◌, ◌<◌, ◌≤◌, Bool, true, false, cond, replicate, Option, Some, None, List, [], ◌∷◌, length, refl, sym, subst, arith}
-use Rattle.std.specs.Prelude.{◌==◌, ◌||◌, min, slice_get}
+use Rattle.std.proofs.Common.{ℕ, zero, suc, ◌≡◌, ◌<◌, ◌≤◌, true, replicate, Option, Some, None, List, [], ◌∷◌, length, refl, sym, subst, arith}
+use Rattle.std.specs.Prelude.{slice_get}
 use Rattle.std.specs.List.{All}
 use Rattle.std.proofs.lemmas.List.{length-replicate}
 use Rattle.usb_machine.specs.declared.layout.Shape.{Shape}
 use Rattle.usb_machine.specs.Shapes.{HasWindow, Accepts}
 use Rattle.usb_machine.specs.History.{HasHome}
 use Rattle.usb_xfer.specs.Direction.{asked_at}
-use Rattle.usb_class.specs.Calls.{coding_of}
+use Rattle.usb_class.specs.InterfaceOps.{payload_for, window_for}
+use Rattle.usb_scene.specs.declared.operation.Operation.{Operation}
+use Rattle.usb_scene.specs.declared.operation.Operation.TheVariants as op
+use Rattle.usb_scene.specs.declared.operation.InterfaceOp.{InterfaceOp}
+use Rattle.usb_scene.specs.declared.operation.InterfaceOp.TheVariants as on
+use Rattle.usb_scene.specs.Operation.{operation_of}
 use Rattle.usb_scene.specs.declared.scene.Scene.{Scene}
 use Rattle.usb_scene.specs.declared.scene.SceneUrb.{SceneUrb}
 use Rattle.usb_scene.specs.declared.scene.Call.{Call}
@@ -18,7 +23,7 @@ use Rattle.usb_scene.specs.WellFormed.{IsUrb, IsBuffer, IsWellFormed}
 use Rattle.usb_prepare.specs.Ends.{shapes_of, shape_at, is_raw_at}
 use Rattle.usb_prepare.specs.Layout.{urb_count, home}
 use Rattle.usb_prepare.proofs.Facts as facts
-use Rattle.usb_line.specs.Prepared.{machine_of, len_in, buffer_of, payload_by, window_by, fresh, submit_fault}
+use Rattle.usb_line.specs.Prepared.{machine_of, len_in, buffer_of, interface_payload, interface_window, payload_by, window_by, fresh, submit_fault}
 
 -- what stands at a place of a list
 pub some_at : {X : Type 0} (xs : List X) (k : ℕ) → k < length xs → (x : X) × (slice_get xs k ≡ Some x)
@@ -27,14 +32,32 @@ some_at (x ∷ xs) zero l = (x, refl)
 some_at (x ∷ xs) (suc k) l = some_at xs k (omega arith)
 
 -- what a call sends to an interface is no longer than what it says, or short
-small : (a b c : Bool) (numbers : List ℕ) (bytes : Option (List ℕ)) → IsBuffer bytes → IsBuffer (cond a (Some (coding_of numbers)) (cond b (Some []) (cond c (Some (0 ∷ [])) bytes)))
-small true b c numbers bytes is = omega arith
-small false true c numbers bytes is = omega arith
-small false false true numbers bytes is = omega arith
-small false false false numbers bytes is = is
+small_for : (asked : InterfaceOp) (said : Option (List ℕ)) → IsBuffer said → IsBuffer (payload_for asked said)
+small_for (on.Led lights) said is = is
+small_for on.Write said is = is
+small_for (on.Coding rate stop parity bits) said is = omega arith
+small_for (on.Control lines) said is = omega arith
+small_for (on.SendBreak ms) said is = omega arith
+small_for on.Print said is = is
+small_for on.Status said is = omega arith
+small_for on.SoftReset said is = omega arith
+
+small : (said : Option (List ℕ)) (o : Operation) → IsBuffer said → IsBuffer (interface_payload said o)
+small said (op.Interface asked) is = small_for asked said is
+small said op.Submit is = is
+small said op.Unlink is = is
+small said op.Kill is = is
+small said op.Poison is = is
+small said op.Unpoison is = is
+small said op.Block is = is
+small said op.Unblock is = is
+small said op.Serve is = is
+small said op.Down is = is
+small said op.Up is = is
+small said (op.Unbuilt code) is = is
 
 payload_few : (c : Call) (t : Target) → IsBuffer c.bytes → IsBuffer (payload_by t c)
-payload_few c (target.Interface d i) is = small (c.code == 25) (c.code == 26 || c.code == 27 || c.code == 30) (c.code == 29) c.numbers c.bytes is
+payload_few c (target.Interface d i) is = small c.bytes (operation_of c) is
 payload_few c target.Nothing is = is
 payload_few c (target.Urb u) is = is
 payload_few c (target.Role d i r) is = is
@@ -42,12 +65,32 @@ payload_few c (target.Anchor a) is = is
 payload_few c (target.Device d) is = is
 
 -- a call's window lies in its buffer
-least : (b : Bool) (n : ℕ) → cond b (min n 8192) n ≤ n
-least true n = omega arith
-least false n = omega arith
+least_for : (asked : InterfaceOp) (n : ℕ) → window_for asked n ≤ n
+least_for on.Print n = omega arith
+least_for (on.Led lights) n = omega arith
+least_for on.Write n = omega arith
+least_for (on.Coding rate stop parity bits) n = omega arith
+least_for (on.Control lines) n = omega arith
+least_for (on.SendBreak ms) n = omega arith
+least_for on.Status n = omega arith
+least_for on.SoftReset n = omega arith
+
+least : (o : Operation) (n : ℕ) → interface_window n o ≤ n
+least (op.Interface asked) n = least_for asked n
+least op.Submit n = omega arith
+least op.Unlink n = omega arith
+least op.Kill n = omega arith
+least op.Poison n = omega arith
+least op.Unpoison n = omega arith
+least op.Block n = omega arith
+least op.Unblock n = omega arith
+least op.Serve n = omega arith
+least op.Down n = omega arith
+least op.Up n = omega arith
+least (op.Unbuilt code) n = omega arith
 
 window_few : (c : Call) (t : Target) (n : ℕ) → window_by t c n ≤ n
-window_few c (target.Interface d i) n = least (c.code == 28) n
+window_few c (target.Interface d i) n = least (operation_of c) n
 window_few c target.Nothing n = omega arith
 window_few c (target.Urb u) n = omega arith
 window_few c (target.Role d i r) n = omega arith

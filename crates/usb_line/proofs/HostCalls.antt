@@ -17,7 +17,10 @@ use Rattle.usb_prepare.specs.Layout.{urb_count, role_urb}
 use Rattle.usb_prepare.proofs.Facts as facts
 use Rattle.usb_line.specs.declared.made.HostCall.{HostCall}
 use Rattle.usb_line.specs.declared.made.HostCall.TheVariants as host_call
-use Rattle.usb_line.specs.Prepared.{host_call_on, host_call_on_any, host_call_called, called_urb, host_call_by, host_call_of}
+use Rattle.usb_scene.specs.Operation.{operation_of}
+use Rattle.usb_line.specs.Prepared.{host_call_called, called_urb, host_call_by, host_call_of}
+use Rattle.usb_line.specs.ByNumber.{numbered_on, numbered_on_any, host_call_numbered}
+use Rattle.usb_line.proofs.ByNumber.{by_number}
 use Rattle.usb_line.proofs.Called.{called_near}
 
 -- how many rejects a host_call raises on URB v, and how many it withdraws
@@ -88,8 +91,8 @@ same true = refl
 same false = refl
 
 -- a call on an URB that is there, and on one that no driver has
-known_urb : (s : Scene) (code u : ℕ) → 2 ≤ code → code ≤ 7 → u < urb_count s → IsKnown s code (Some u) (host_call_on code u)
-known_urb s code u l m near = by_code (λ k. IsKnown s k (Some u) (host_call_on k u))
+known_urb : (s : Scene) (code u : ℕ) → 2 ≤ code → code ≤ 7 → u < urb_count s → IsKnown s code (Some u) (numbered_on code u)
+known_urb s code u l m near = by_code (λ k. IsKnown s k (Some u) (numbered_on k u))
     record { there = near; raised = λ v. same (eqb u v); withdrawn = λ v. same (eqb u v); hubs = refl }
     record { there = near; raised = λ v. same (eqb u v); withdrawn = λ v. same (eqb u v); hubs = refl }
     record { there = near; raised = λ v. refl; withdrawn = λ v. same (eqb u v); hubs = refl }
@@ -109,41 +112,52 @@ known_absent s code l m = by_code (λ k. IsKnown s k None host_call.Absent)
     code l m
 
 module _ (s : Scene) (good : IsWellFormed s) where
-  known_own : (code u : ℕ) → 1 ≤ code → code ≤ 7 → u < length s.urbs → IsKnown s code (Some u) (host_call_on code u)
+  known_own : (code u : ℕ) → 1 ≤ code → code ≤ 7 → u < length s.urbs → IsKnown s code (Some u) (numbered_on code u)
   known_own code u l m near = dite (ℕ_discrete 1 code)
-      (λ is. subst (λ k. IsKnown s k (Some u) (host_call_on k u)) is record { there = (let own = facts.own_urbs s good in omega arith); raised = λ v. same (eqb u v); withdrawn = λ v. same (eqb u v); hubs = refl })
+      (λ is. subst (λ k. IsKnown s k (Some u) (numbered_on k u)) is record { there = (let own = facts.own_urbs s good in omega arith); raised = λ v. same (eqb u v); withdrawn = λ v. same (eqb u v); hubs = refl })
       (λ off. known_urb s code u (omega arith) m (let own = facts.own_urbs s good in omega arith))
 
-  known_at : (code : ℕ) (t : Target) → IsBuilt s code t → IsKnown s code (named s t) (host_call_by s code t)
-  known_at code target.Nothing is = ⊎_elim
-      (λ e. subst (λ k. IsKnown s k None (host_call_by s k target.Nothing)) (sym e) record { there = tt; raised = λ v. refl; withdrawn = λ v. refl; hubs = refl })
+  known_at : (code : ℕ) (t : Target) → IsBuilt s code t → ((d i : ℕ) → target.Interface d i ≡ t → IsThere s (host_call_numbered s code t)) → IsKnown s code (named s t) (host_call_numbered s code t)
+  known_at code target.Nothing is called = ⊎_elim
+      (λ e. subst (λ k. IsKnown s k None (host_call_numbered s k target.Nothing)) (sym e) record { there = tt; raised = λ v. refl; withdrawn = λ v. refl; hubs = refl })
       (⊎_elim
-      (λ e. subst (λ k. IsKnown s k None (host_call_by s k target.Nothing)) (sym e) record { there = tt; raised = λ v. refl; withdrawn = λ v. refl; hubs = refl })
-      (λ e. subst (λ k. IsKnown s k None (host_call_by s k target.Nothing)) (sym e) record { there = tt; raised = λ v. refl; withdrawn = λ v. refl; hubs = refl })) is
-  known_at code (target.Urb u) is = known_own code u is.0 is.1 is.2
-  known_at code (target.Role d i r) is = go (role_urb s d i r) refl
+      (λ e. subst (λ k. IsKnown s k None (host_call_numbered s k target.Nothing)) (sym e) record { there = tt; raised = λ v. refl; withdrawn = λ v. refl; hubs = refl })
+      (λ e. subst (λ k. IsKnown s k None (host_call_numbered s k target.Nothing)) (sym e) record { there = tt; raised = λ v. refl; withdrawn = λ v. refl; hubs = refl })) is
+  known_at code (target.Urb u) is called = known_own code u is.0 is.1 is.2
+  known_at code (target.Role d i r) is called = go (role_urb s d i r) refl
     where
-      go : (o : Option ℕ) → role_urb s d i r ≡ o → IsKnown s code o (host_call_on_any code o)
+      go : (o : Option ℕ) → role_urb s d i r ≡ o → IsKnown s code o (numbered_on_any code o)
       go None e = known_absent s code is.0 is.1
       go (Some u) e = known_urb s code u is.0 is.1 (facts.role_near s good d i u r e).1
-  known_at code (target.Interface d i) is = go (called_urb s code d i) refl
+  known_at code (target.Interface d i) is called = go _ (called d i refl)
     where
       no_hub : is_hub_call code ≡ false
       no_hub = let low = is.0 in
           ap (λ b. cond b true (cond (eqb code 22) true false)) (ne_eqb code 21 (λ e. absurd (omega arith))) ∙ ap (λ b. cond b true false) (ne_eqb code 22 (λ e. absurd (omega arith)))
 
-      go : (o : Option ℕ) → called_urb s code d i ≡ o → IsKnown s code None (host_call_called o)
-      go None e = record { there = tt; raised = λ v. refl; withdrawn = λ v. refl; hubs = no_hub }
-      go (Some u) e = record { there = called_near s good code d i u e; raised = λ v. refl; withdrawn = λ v. refl; hubs = no_hub }
-  known_at code (target.Anchor a) is = absurd is
-  known_at code (target.Device d) is = absurd is
+      go : (o : Option ℕ) → IsThere s (host_call_called o) → IsKnown s code None (host_call_called o)
+      go None there = record { there = there; raised = λ v. refl; withdrawn = λ v. refl; hubs = no_hub }
+      go (Some u) there = record { there = there; raised = λ v. refl; withdrawn = λ v. refl; hubs = no_hub }
+  known_at code (target.Anchor a) is called = absurd is
+  known_at code (target.Device d) is called = absurd is
+
+  called_there : (c : Call) (t : Target) (d i : ℕ) → target.Interface d i ≡ t → IsThere s (host_call_by s (operation_of c) t)
+  called_there c t d i e = subst (λ t. IsThere s (host_call_by s (operation_of c) t)) e (go (called_urb s (operation_of c) d i) refl)
+    where
+      go : (o : Option ℕ) → called_urb s (operation_of c) d i ≡ o → IsThere s (host_call_called o)
+      go None e = tt
+      go (Some u) e = called_near s good (operation_of c) d i u e
+
+  known : (c : Call) → IsCall s c → IsKnown s c.code (named s c.target) (host_call_of s c)
+  known c is = subst (IsKnown s c.code (named s c.target)) (sym (by_number s c))
+      (known_at c.code c.target is.built (λ d i e. subst (IsThere s) (by_number s c) (called_there c c.target d i e)))
 
   module _ (c : Call) (is : IsCall s c) where
     pub host_call_there : IsThere s (host_call_of s c)
-    host_call_there = (known_at c.code c.target is.built).there
+    host_call_there = (known c is).there
 
     pub host_call_hubs : is_hub_call c.code ≡ is_hubs (host_call_of s c)
-    host_call_hubs = (known_at c.code c.target is.built).hubs
+    host_call_hubs = (known c is).hubs
 
   -- roles have numbers of their own
   same_role : (r q : Role) → role_number r ≡ role_number q → r ≡ q
@@ -202,10 +216,10 @@ module _ (s : Scene) (good : IsWellFormed s) where
   -- what the scene counts of the rejects on an URB, and what its host_calls do there
   module _ (t : Call) (is : IsCall s t) (v : ℕ) (names : named s t.target ≡ Some v) where
     count_raised : (c : Call) → IsCall s c → raised t.target c ≡ raises v (host_call_of s c)
-    count_raised c of = ap (λ b. cond b (up_by c.code) 0) (same_urb t.code c.code v t.target c.target is.built of.built names) ∙ (known_at c.code c.target of.built).raised v
+    count_raised c of = ap (λ b. cond b (up_by c.code) 0) (same_urb t.code c.code v t.target c.target is.built of.built names) ∙ (known c of).raised v
 
     count_withdrawn : (c : Call) → IsCall s c → withdrawn t.target c ≡ withdraws v (host_call_of s c)
-    count_withdrawn c of = ap (λ b. cond b (down_by c.code) 0) (same_urb t.code c.code v t.target c.target is.built of.built names) ∙ (known_at c.code c.target of.built).withdrawn v
+    count_withdrawn c of = ap (λ b. cond b (down_by c.code) 0) (same_urb t.code c.code v t.target c.target is.built of.built names) ∙ (known c of).withdrawn v
 
     pub sum_raised : (calls : List Call) → All (IsCall s) calls → sum_by (raised t.target) calls ≡ sum_by (λ c. raises v (host_call_of s c)) calls
     sum_raised [] all = refl
@@ -227,7 +241,7 @@ module _ (s : Scene) (good : IsWellFormed s) where
   is_one false n e = absurd (omega arith)
 
   pub withdraws_named : (c : Call) → IsCall s c → (v : ℕ) → withdraws v (host_call_of s c) ≡ 1 → named s c.target ≡ Some v
-  withdraws_named c is v e = named_by v (named s c.target) (is_one (is_urb v (named s c.target)) (down_by c.code) ((known_at c.code c.target is.built).withdrawn v ∙ e))
+  withdraws_named c is v e = named_by v (named s c.target) (is_one (is_urb v (named s c.target)) (down_by c.code) ((known c is).withdrawn v ∙ e))
 
   pub withdraws_own : (c : Call) (is : IsCall s c) (v : ℕ) → withdraws v (host_call_of s c) ≡ 1 → withdrawn c.target c ≡ 1
   withdraws_own c is v e = count_withdrawn c is v (withdraws_named c is v e) c is ∙ e
@@ -245,5 +259,5 @@ module _ (s : Scene) (good : IsWellFormed s) where
           → (raises v (host_call_of s c) + sum_by (λ c. raises v (host_call_of s c)) calls ≡ 0) ⊎ ((c : Call) × (is : IsCall s c) × (named s c.target ≡ Some v))
       go true e rest = inr (c, first, named_by v (named s c.target) e)
       go false e rest = ⊎_elim
-          (λ (none : sum_by (λ c. raises v (host_call_of s c)) calls ≡ 0). let zero : raises v (host_call_of s c) ≡ 0 = sym ((known_at c.code c.target first.built).raised v) ∙ ap (λ b. cond b (up_by c.code) 0) e in inl (omega arith))
+          (λ (none : sum_by (λ c. raises v (host_call_of s c)) calls ≡ 0). let zero : raises v (host_call_of s c) ≡ 0 = sym ((known c first).raised v) ∙ ap (λ b. cond b (up_by c.code) 0) e in inl (omega arith))
           (λ (some : (c : Call) × (is : IsCall s c) × (named s c.target ≡ Some v)). inr some) rest

@@ -40,6 +40,7 @@ pub mod Turns
 pub mod Waits
 pub mod Each
 pub mod Held
+pub mod ByNumber
 pub mod HostCalls
 pub mod Effects
 pub mod Passes

@@ -1,5 +1,5 @@
 -- What a call submits, its URB may have.
-use Rattle.std.proofs.Common.{ℕ, inl, inr, ◌≡◌, ◌<◌, Bool, true, false, cond, eqb, Option, Some, None, List, ◌∷◌, length, refl, sym, ap, ◌∙◌, subst, arith, eqb-true, true≢false}
+use Rattle.std.proofs.Common.{ℕ, ◌≡◌, ◌<◌, Bool, true, false, cond, eqb, Option, Some, None, List, ◌∷◌, length, refl, sym, ap, ◌∙◌, subst, arith, eqb-true, true≢false}
 use Rattle.std.specs.Prelude.{◌==◌, ◌&&◌, slice_get}
 use Rattle.usb_types.specs.declared.urb.Role.{Role}
 use Rattle.usb_types.specs.declared.urb.Role.TheVariants.{In as InRole, Note, Read0, Read1, Write, Ctl}
@@ -10,13 +10,17 @@ use Rattle.usb_xfer.specs.Moved.{question_by}
 use Rattle.usb_device.specs.Rules.{is_at}
 use Rattle.usb_device.specs.Laws.{sets_halt}
 use Rattle.usb_class.specs.Handler.{is_ctl}
-use Rattle.usb_class.specs.Calls.{setup_for}
+use Rattle.usb_class.specs.InterfaceOps.{setup_for}
 use Rattle.usb_class.proofs.Facts.{role_has, IsRequest, call_request}
 use Rattle.usb_scene.specs.declared.scene.Scene.{Scene}
 use Rattle.usb_scene.specs.declared.scene.Call.{Call}
 use Rattle.usb_scene.specs.declared.scene.Target.{Target}
 use Rattle.usb_scene.specs.declared.scene.Target.TheVariants as target
+use Rattle.usb_scene.specs.declared.operation.Operation.{Operation}
+use Rattle.usb_scene.specs.declared.operation.Operation.TheVariants as op
+use Rattle.usb_scene.specs.Operation.{operation_of, number_of}
 use Rattle.usb_scene.specs.WellFormed.{IsBuilt, IsCall, IsWellFormed}
+use Rattle.usb_scene.proofs.Operations.{number_kept}
 use Rattle.usb_prepare.specs.Ends.{shape_at}
 use Rattle.usb_prepare.specs.Prepared.{bindings_of}
 use Rattle.usb_prepare.specs.Layout.{urb_count, home, role_urb}
@@ -25,7 +29,7 @@ use Rattle.usb_bind.specs.Board.{urb_of_role}
 use Rattle.usb_prepare.proofs.Facts.{bound_near, bound_home_ctl, urb_once}
 use Rattle.usb_line.specs.declared.owner.Owner.{Owner}
 use Rattle.usb_line.specs.declared.made.HostCall.TheVariants as host_call
-use Rattle.usb_line.specs.Prepared.{owner_of, fresh, submit_fault, setup_by, called_urb, host_call_on, host_call_on_any, host_call_called, host_call_by, host_call_of}
+use Rattle.usb_line.specs.Prepared.{owner_of, fresh, submit_fault, interface_setup, setup_by, called_urb, host_call_on, host_call_alone, host_call_on_any, host_call_called, host_call_by, host_call_of}
 use Rattle.usb_line.specs.Between.{IsBare}
 use Rattle.usb_line.specs.Shows.{IsApt}
 use Rattle.usb_line.proofs.Owners.{owner_bound}
@@ -71,12 +75,12 @@ module _ (s : Scene) (good : IsWellFormed s) (k : ℕ) (b : Bound) (u : ℕ) (at
 
 module _ (s : Scene) (good : IsWellFormed s) (u : ℕ) (c : Call) where
   -- a call on an interface
-  module _ (d i : ℕ) (aims : c.target ≡ target.Interface d i) (called : IsCalled s c.code u) (none : submit_fault s u c ≡ None) where
+  module _ (d i : ℕ) (aims : c.target ≡ target.Interface d i) (called : IsCalled s (operation_of c) u) (none : submit_fault s u c ≡ None) where
     abbrev t : Transfer
     t = fresh s u c
 
-    setup_is : t.setup ≡ setup_for c.code i c.numbers c.bytes
-    setup_is = ap (λ (x : Target). setup_by x c) aims
+    setup_is : t.setup ≡ setup_for called.asked i
+    setup_is = ap (λ (x : Target). setup_by x c) aims ∙ ap (interface_setup i) called.is
 
     near : u < urb_count s
     near = (bound_near s good called.place called.binding called.purpose record { 0 = u } called.at called.has).1
@@ -90,42 +94,53 @@ module _ (s : Scene) (good : IsWellFormed s) (u : ℕ) (c : Call) where
     interface_apt Write is request = packets_apt s u near t request none
 
     called_apt : IsApt s u t
-    called_apt = interface_apt called.purpose refl (subst (IsRequest called.purpose) (sym setup_is) (call_request c.code called.binding.driver called.purpose i c.numbers c.bytes called.for))
+    called_apt = interface_apt called.purpose refl (subst (IsRequest called.purpose) (sym setup_is) (call_request called.asked called.binding.driver called.purpose i called.for))
 
-  -- a call on an URB submits it where its number is that of a submit
-  submits : (code v : ℕ) → host_call_on code v ≡ host_call.Submit u → (code ≡ 1) × (v ≡ u)
-  submits code v e = go (eqb code 1) refl (eqb code 2) (eqb code 3) (eqb code 4) (eqb code 5) (eqb code 6) (eqb code 7) e
-    where
-      go : (a : Bool) → eqb code 1 ≡ a → (b c d e f g : Bool)
-          → cond a (host_call.Submit v) (cond b (host_call.Unlink v) (cond c (host_call.Kill v) (cond d (host_call.Poison v) (cond e (host_call.Unpoison v) (cond f (host_call.Block v) (cond g (host_call.Unblock v) host_call.Other)))))) ≡ host_call.Submit u
-          → (code ≡ 1) × (v ≡ u)
-      go true is b c d e f g x = (eqb-true code 1 is, (let same : v ≡ u = cc in same))
-      go false is true c d e f g x = cc
-      go false is false true d e f g x = cc
-      go false is false false true e f g x = cc
-      go false is false false false true f g x = cc
-      go false is false false false false true g x = cc
-      go false is false false false false false true x = cc
-      go false is false false false false false false x = cc
+  -- a call on an URB submits it where it asks for that
+  submits : (o : Operation) (v : ℕ) → host_call_on o v ≡ host_call.Submit u → (o ≡ op.Submit) × (v ≡ u)
+  submits op.Submit v e = (refl, (let same : v ≡ u = cc in same))
+  submits op.Unlink v e = cc
+  submits op.Kill v e = cc
+  submits op.Poison v e = cc
+  submits op.Unpoison v e = cc
+  submits op.Block v e = cc
+  submits op.Unblock v e = cc
+  submits op.Serve v e = cc
+  submits op.Down v e = cc
+  submits op.Up v e = cc
+  submits (op.Interface asked) v e = cc
+  submits (op.Unbuilt code) v e = cc
+
+  -- and one on nothing never does
+  submits_none : (o : Operation) → host_call_alone o ≡ host_call.Submit u → ⊥
+  submits_none op.Submit e = cc
+  submits_none op.Unlink e = cc
+  submits_none op.Kill e = cc
+  submits_none op.Poison e = cc
+  submits_none op.Unpoison e = cc
+  submits_none op.Block e = cc
+  submits_none op.Unblock e = cc
+  submits_none op.Serve e = cc
+  submits_none op.Down e = cc
+  submits_none op.Up e = cc
+  submits_none (op.Interface asked) e = cc
+  submits_none (op.Unbuilt code) e = cc
 
   called : (o : Option ℕ) → host_call_called o ≡ host_call.Submit u → o ≡ Some u
   called None e = cc
   called (Some v) e = let same : v ≡ u = cc in ap Some same
 
-  by_target : (t : Target) → c.target ≡ t → IsBuilt s c.code t → host_call_by s c.code t ≡ host_call.Submit u → submit_fault s u c ≡ None → IsApt s u (fresh s u c)
-  by_target target.Nothing aims is e none = absurd (nothing c.code is e)
-    where
-      nothing : (code : ℕ) → IsBuilt s code target.Nothing → host_call_by s code target.Nothing ≡ host_call.Submit u → ⊥
-      nothing code (inl a) e = let x : host_call_by s 8 target.Nothing ≡ host_call.Submit u = subst (λ k. host_call_by s k target.Nothing ≡ host_call.Submit u) a e in cc
-      nothing code (inr (inl a)) e = let x : host_call_by s 21 target.Nothing ≡ host_call.Submit u = subst (λ k. host_call_by s k target.Nothing ≡ host_call.Submit u) a e in cc
-      nothing code (inr (inr a)) e = let x : host_call_by s 22 target.Nothing ≡ host_call.Submit u = subst (λ k. host_call_by s k target.Nothing ≡ host_call.Submit u) a e in cc
-  by_target (target.Urb v) aims is e none = own_apt s good u (subst (λ w. w < length s.urbs) (submits c.code v e).1 is.2) (fresh s u c)
+  by_target : (t : Target) → c.target ≡ t → IsBuilt s c.code t → host_call_by s (operation_of c) t ≡ host_call.Submit u → submit_fault s u c ≡ None → IsApt s u (fresh s u c)
+  by_target target.Nothing aims is e none = absurd (submits_none (operation_of c) e)
+  by_target (target.Urb v) aims is e none = own_apt s good u (subst (λ w. w < length s.urbs) (submits (operation_of c) v e).1 is.2) (fresh s u c)
   by_target (target.Role d i r) aims is e none = go (role_urb s d i r) e
     where
-      go : (o : Option ℕ) → host_call_on_any c.code o ≡ host_call.Submit u → IsApt s u (fresh s u c)
+      go : (o : Option ℕ) → host_call_on_any (operation_of c) o ≡ host_call.Submit u → IsApt s u (fresh s u c)
       go None e = cc
-      go (Some v) e = let one = (submits c.code v e).0 in let low = is.0 in absurd (omega arith)
-  by_target (target.Interface d i) aims is e none = called_apt d i aims (called_by s c.code d i u (called (called_urb s c.code d i) e)) none
+      go (Some v) e =
+          let one : c.code ≡ 1 = sym (number_kept c) ∙ ap number_of (submits (operation_of c) v e).0 in
+          let low = is.0 in absurd (omega arith)
+  by_target (target.Interface d i) aims is e none = called_apt d i aims (called_by s (operation_of c) d i u (called (called_urb s (operation_of c) d i) e)) none
   by_target (target.Anchor a) aims is e none = absurd is
   by_target (target.Device d) aims is e none = absurd is
 

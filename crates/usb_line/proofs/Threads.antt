@@ -5,6 +5,7 @@ use Rattle.std.proofs.lemmas.List.{map-append, take_more}
 use Rattle.usb_scene.specs.declared.scene.Scene.{Scene}
 use Rattle.usb_scene.specs.declared.scene.SceneThread.{SceneThread}
 use Rattle.usb_scene.specs.declared.scene.Call.{Call}
+use Rattle.usb_scene.specs.Operation.{operation_of}
 use Rattle.usb_scene.specs.WellFormed.{IsWellFormed}
 use Rattle.usb_line.specs.declared.made.CallMade.{CallMade}
 use Rattle.usb_line.specs.declared.made.CallAnswer.{CallAnswer}
@@ -46,7 +47,7 @@ calls_split s n = (
 
 -- what is kept of this call of thread i
 abbrev pub made_row : ℕ → Call → CallAnswer → CallMade
-made_row i c answer = record { thread = i; line = c.line; code = c.code; target = c.target; answer = answer }
+made_row i c answer = record { thread = i; line = c.line; operation = operation_of c; target = c.target; answer = answer }
 
 module _ (s : Scene) (good : IsWellFormed s) (i : ℕ) (near : i < length s.threads) (calls : List Call)
     (script : calls_from 0 (take (i + 1) s.threads) ≡ calls_from 0 (take i s.threads) ++ map (λ (c : Call). (i, c)) calls) where
@@ -92,7 +93,7 @@ module _ (s : Scene) (good : IsWellFormed s) (i : ℕ) (near : i < length s.thre
     one_made answer after longer done pushed =
         let same = makes_call_records s at.far i this done.did done.far done.makes in
         let row : CallMade = made_row i this answer in
-        let told : made_of done.did ≡ row = (λ j. record { thread = (same.0 j).0; line = (same.0 j).1.line; code = (same.0 j).1.code; target = (same.0 j).1.target; answer = done.told j }) in
+        let told : made_of done.did ≡ row = (λ j. record { thread = (same.0 j).0; line = (same.0 j).1.line; operation = operation_of (same.0 j).1; target = (same.0 j).1.target; answer = done.told j }) in
         record {
           far = with_call_record s done.far done.did;
           in_line = call at.far done.far i this done.did at.in_line near done.makes;

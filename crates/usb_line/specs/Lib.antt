@@ -1,5 +1,6 @@
 pub mod Script
 pub mod Prepared
+pub mod ByNumber
 pub mod Due
 pub mod Run
 pub mod Reads

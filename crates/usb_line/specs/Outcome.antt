@@ -1,6 +1,7 @@
 -- What a run leaves for its report.
 use Rattle.std.specs.Prelude.{ℕ, ◌≡◌, ◌-◌, ◌^◌, min, List, length, map, take}
 use Rattle.usb_scene.specs.declared.scene.Scene.{Scene}
+use Rattle.usb_scene.specs.Operation.{operation_of}
 use Rattle.usb_line.specs.declared.made.CallMade.{CallMade}
 use Rattle.usb_line.specs.declared.run.Received.{Received}
 use Rattle.usb_line.specs.declared.run.EndRow.{EndRow}
@@ -15,7 +16,7 @@ use Rattle.usb_line.specs.Line.{Progress, IsLineRun}
 
 -- what is kept of a call that was made
 abbrev pub made_of : CallRecord → CallMade
-made_of d = record { thread = d.thread; line = d.call.line; code = d.call.code; target = d.call.target; answer = d.answer }
+made_of d = record { thread = d.thread; line = d.call.line; operation = operation_of d.call; target = d.call.target; answer = d.answer }
 
 -- how many bytes these are, and the first 64
 abbrev pub received_of : List ℕ → Received

@@ -1,6 +1,6 @@
 -- What the run of a scene is made on: the machine of its host with the passes, the script of each endpoint, what its own
 -- URBs submit, and what its calls do.
-use Rattle.std.specs.Prelude.{ℕ, ◌+◌, Bool, false, ◌==◌, if◌then◌else◌, codes, List, [], ◌∷◌, ◌++◌, length, map, count_by, slice_get, slice_index_or, find, replicate, Option, Some, None, option_map, option_and_then}
+use Rattle.std.specs.Prelude.{ℕ, ◌+◌, Bool, false, if◌then◌else◌, codes, List, [], ◌∷◌, ◌++◌, length, map, count_by, slice_get, slice_index_or, find, replicate, Option, Some, None, option_map, option_and_then}
 use Rattle.std.specs.Option.{option_map_or}
 use Rattle.std.specs.Str.{bytes_eq}
 use Rattle.usb_types.specs.declared.errno.Errno.{Errno}
@@ -14,7 +14,7 @@ use Rattle.usb_device.specs.Items.{Script, last_at, script_at}
 use Rattle.usb_bind.specs.declared.bound.Bound.{Bound}
 use Rattle.usb_bind.specs.Board.{BoardValue, is_binding_of, urb_of_role}
 use Rattle.usb_class.specs.Roles.{role_in, kept_size, has_number}
-use Rattle.usb_class.specs.Calls.{urb_for, setup_for, payload_for, window_for}
+use Rattle.usb_class.specs.InterfaceOps.{urb_for, setup_for, payload_for, window_for}
 use Rattle.usb_class.specs.Origin.{Origin}
 use Rattle.usb_class.specs.Questions.{question_by}
 use Rattle.usb_class.specs.Handler.{is_ctl}
@@ -25,6 +25,9 @@ use Rattle.usb_scene.specs.declared.scene.SceneThread.{SceneThread}
 use Rattle.usb_scene.specs.declared.scene.Call.{Call}
 use Rattle.usb_scene.specs.declared.scene.Target.{Target}
 use Rattle.usb_scene.specs.declared.scene.Target.TheVariants as target
+use Rattle.usb_scene.specs.declared.operation.Operation.{Operation}
+use Rattle.usb_scene.specs.declared.operation.Operation.TheVariants as op
+use Rattle.usb_scene.specs.Operation.{operation_of}
 use Rattle.usb_prepare.specs.Below.{below}
 use Rattle.usb_prepare.specs.Ends.{shape_at}
 use Rattle.usb_prepare.specs.Prepared.{probes_of, bindings_of, ids_of}
@@ -150,19 +153,32 @@ abbrev pub buffer_of : ℕ → Option (List ℕ) → List ℕ
 buffer_of len None = replicate len 0
 buffer_of len (Some bytes) = bytes
 
+-- what an operation sends to an interface: a setup packet, bytes where the call says these, and how many of so many are its window
+abbrev pub interface_setup : ℕ → Operation → Option (List ℕ)
+interface_setup interface (op.Interface asked) = setup_for asked interface
+interface_setup interface _ = None
+
+abbrev pub interface_payload : Option (List ℕ) → Operation → Option (List ℕ)
+interface_payload said (op.Interface asked) = payload_for asked said
+interface_payload said _ = said
+
+abbrev pub interface_window : ℕ → Operation → ℕ
+interface_window n (op.Interface asked) = window_for asked n
+interface_window n _ = n
+
 -- the setup packet that a call sends: the one that it has for an interface, or else the one that it says
 abbrev pub setup_by : Target → Call → Option (List ℕ)
-setup_by (target.Interface device interface) c = setup_for c.code interface c.numbers c.bytes
+setup_by (target.Interface device interface) c = interface_setup interface (operation_of c)
 setup_by _ c = c.setup
 
 -- and the bytes
 abbrev pub payload_by : Target → Call → Option (List ℕ)
-payload_by (target.Interface device interface) c = payload_for c.code c.numbers c.bytes
+payload_by (target.Interface device interface) c = interface_payload c.bytes (operation_of c)
 payload_by _ c = c.bytes
 
 -- and how many of them are its window
 abbrev pub window_by : Target → Call → ℕ → ℕ
-window_by (target.Interface device interface) c n = window_for c.code n
+window_by (target.Interface device interface) c n = interface_window n (operation_of c)
 window_by _ c n = n
 
 -- the transfer that a submit of URB u sends. Its number is the line's
@@ -174,47 +190,54 @@ fresh s u c = let urb = slice_get s.urbs u in let buf = buffer_of (len_in urb) (
 abbrev pub submit_fault : Scene → ℕ → Call → Option Errno
 submit_fault s u c = shape_fault (shape_at s (home s u)) (fresh s u c)
 
--- what a call with this number in the table of calls does to an URB
-abbrev pub host_call_on : ℕ → ℕ → HostCall
-host_call_on code u =
-    if code == 1 then host_call.Submit u
-    else if code == 2 then host_call.Unlink u
-    else if code == 3 then host_call.Kill u
-    else if code == 4 then host_call.Poison u
-    else if code == 5 then host_call.Unpoison u
-    else if code == 6 then host_call.Block u
-    else if code == 7 then host_call.Unblock u
-    else host_call.Other
+-- what an operation does to an URB
+abbrev pub host_call_on : Operation → ℕ → HostCall
+host_call_on op.Submit u = host_call.Submit u
+host_call_on op.Unlink u = host_call.Unlink u
+host_call_on op.Kill u = host_call.Kill u
+host_call_on op.Poison u = host_call.Poison u
+host_call_on op.Unpoison u = host_call.Unpoison u
+host_call_on op.Block u = host_call.Block u
+host_call_on op.Unblock u = host_call.Unblock u
+host_call_on _ u = host_call.Other
 
 -- and what it does on nothing in particular
-abbrev pub host_call_alone : ℕ → HostCall
-host_call_alone code = if code == 8 then host_call.Serve else if code == 21 then host_call.Down else if code == 22 then host_call.Up else host_call.Other
+abbrev pub host_call_alone : Operation → HostCall
+host_call_alone op.Serve = host_call.Serve
+host_call_alone op.Down = host_call.Down
+host_call_alone op.Up = host_call.Up
+host_call_alone _ = host_call.Other
 
 -- what it does to an URB of a driver, where there is one
-abbrev pub host_call_on_any : ℕ → Option ℕ → HostCall
-host_call_on_any code None = host_call.Absent
-host_call_on_any code (Some u) = host_call_on code u
+abbrev pub host_call_on_any : Operation → Option ℕ → HostCall
+host_call_on_any asked None = host_call.Absent
+host_call_on_any asked (Some u) = host_call_on asked u
 
 -- what it does on an interface: it submits an URB of the driver, where there is one
 abbrev pub host_call_called : Option ℕ → HostCall
 host_call_called None = host_call.Absent
 host_call_called (Some u) = host_call.Submit u
 
--- the URB that a call on an interface submits
-abbrev pub called_urb : Scene → ℕ → ℕ → ℕ → Option ℕ
-called_urb s code device interface =
-    option_map (λ (u : UrbId). u.0) (option_and_then (urb_for code) (find (is_binding_of device interface) (bindings_of s)))
+-- the URB of a binding that an operation on its interface submits
+abbrev pub called_of : Operation → Bound → Option UrbId
+called_of (op.Interface asked) b = urb_for asked b
+called_of _ b = None
 
-abbrev pub host_call_by : Scene → ℕ → Target → HostCall
-host_call_by s code target.Nothing = host_call_alone code
-host_call_by s code (target.Urb u) = host_call_on code u
-host_call_by s code (target.Role device interface role) = host_call_on_any code (role_urb s device interface role)
-host_call_by s code (target.Interface device interface) = host_call_called (called_urb s code device interface)
-host_call_by s code (target.Anchor a) = host_call.Other
-host_call_by s code (target.Device d) = host_call.Other
+-- the URB that a call on an interface submits
+abbrev pub called_urb : Scene → Operation → ℕ → ℕ → Option ℕ
+called_urb s asked device interface =
+    option_map (λ (u : UrbId). u.0) (option_and_then (called_of asked) (find (is_binding_of device interface) (bindings_of s)))
+
+abbrev pub host_call_by : Scene → Operation → Target → HostCall
+host_call_by s asked target.Nothing = host_call_alone asked
+host_call_by s asked (target.Urb u) = host_call_on asked u
+host_call_by s asked (target.Role device interface role) = host_call_on_any asked (role_urb s device interface role)
+host_call_by s asked (target.Interface device interface) = host_call_called (called_urb s asked device interface)
+host_call_by s asked (target.Anchor a) = host_call.Other
+host_call_by s asked (target.Device d) = host_call.Other
 
 abbrev pub host_call_of : Scene → Call → HostCall
-host_call_of s c = host_call_by s c.code c.target
+host_call_of s c = host_call_by s (operation_of c) c.target
 
 -- the calls of these threads in line order, each with its thread's number, of which the first is i
 abbrev pub calls_from : ℕ → List SceneThread → List (ℕ × Call)

@@ -1,6 +1,6 @@
 //! What a run leaves for its report.
 
-use usb_scene::Target;
+use usb_scene::{Operation, Target};
 use usb_types::{Buf, Code};
 
 /// What a call of a scene does. URBs are named by their numbers.
@@ -39,8 +39,8 @@ pub struct CallMade {
     /// The thread's number in the scene.
     pub thread: u32,
     pub line: u32,
-    /// The call's number in the table of calls.
-    pub code: u32,
+    /// What it asked for.
+    pub operation: Operation,
     /// What it was made on, as the scene names it.
     pub target: Target,
     pub answer: CallAnswer,

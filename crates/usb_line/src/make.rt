@@ -71,7 +71,7 @@ impl LineRun<'_> {
             made.push(CallMade {
                 thread,
                 line: call.line,
-                code: call.code,
+                operation: call.operation(),
                 target: call.target,
                 answer,
             })?;

@@ -14,7 +14,7 @@ ghost use Rattle.usb_line.specs.declared.run.EndRow.{EndRow};
 ghost use Rattle.usb_line.specs.declared.made.HostCall.TheVariants as host_call;
 ghost use Rattle.usb_prepare.specs.Ends.{shape_at};
 ghost use Rattle.usb_prepare.specs.Layout.{home};
-ghost use Rattle.usb_line.specs.Prepared.{machine_of, buffer_of, setup_by, payload_by, window_by};
+ghost use Rattle.usb_line.specs.Prepared.{machine_of, buffer_of, interface_setup, interface_payload, interface_window, setup_by, payload_by, window_by};
 ghost use Rattle.usb_line.specs.Line.{Progress};
 ghost use Rattle.usb_line.specs.Shows.{Shows};
 ghost use Rattle.usb_line.specs.Steps.{AsMany};
@@ -27,7 +27,7 @@ use crate::steps::{code_in, enter};
 use std::alloc::Global;
 use usb_class::{payload_for, setup_for, window_for};
 use usb_machine::{Event, Plain, Transfer, shape_fault};
-use usb_scene::{Call, SceneUrb, Target};
+use usb_scene::{Call, Operation, SceneUrb, Target};
 use usb_types::{Buf, Code, Errno, Memory, UrbId};
 
 /// What the scene says of an URB: of a driver's nothing.
@@ -65,18 +65,41 @@ pub fn zeros(alloc: Global, len: u32) -> Result<Buf, Memory>
     }
 }
 
-// The bytes that a call sends: those that it has for an interface, or else those that it says.
-fn payload(alloc: Global, call: &Call) -> Result<Option<Buf>, Memory>
-    ensures { IfOk result (λ payload. payload ≡ payload_by call.now.target call.now) }
+// The bytes that a call says.
+fn copied(alloc: Global, said: &Option<Buf>) -> Result<Option<Buf>, Memory>
+    ensures { IfOk result (λ copy. copy ≡ said.now) }
 {
-    match (call.target, &call.bytes) {
-        (Target::Interface { .. }, bytes) => payload_for(alloc, call.code, &call.numbers, bytes),
-        (_, Some(bytes)) => {
+    match said {
+        Some(bytes) => {
             let mut buf = Buf::of(Vec::new(alloc));
             buf.append(bytes.bytes())?;
             Ok(Some(buf))
         }
-        (_, None) => Ok(None),
+        None => Ok(None),
+    }
+}
+
+// The bytes that an operation sends to an interface, where its call says these.
+fn interface_payload(
+    alloc: Global,
+    operation: Operation,
+    said: &Option<Buf>,
+) -> Result<Option<Buf>, Memory>
+    ensures { IfOk result (λ payload. payload ≡ interface_payload said.now operation) }
+{
+    match operation {
+        Operation::Interface(asked) => payload_for(alloc, asked, said),
+        _ => copied(alloc, said),
+    }
+}
+
+// The bytes that a call sends: those that it has for an interface, or else those that it says.
+fn payload(alloc: Global, call: &Call) -> Result<Option<Buf>, Memory>
+    ensures { IfOk result (λ payload. payload ≡ payload_by call.now.target call.now) }
+{
+    match call.target {
+        Target::Interface { .. } => interface_payload(alloc, call.operation(), &call.bytes),
+        _ => copied(alloc, &call.bytes),
     }
 }
 
@@ -90,15 +113,33 @@ fn buffer(alloc: Global, said: Said, call: &Call) -> Result<Buf, Memory>
     }
 }
 
+// The setup packet that an operation sends to an interface.
+fn interface_setup(operation: Operation, interface: u8) -> Option<[u8; 8]>
+    ensures { result ≡ interface_setup interface operation }
+{
+    match operation {
+        Operation::Interface(asked) => setup_for(asked, interface),
+        _ => None,
+    }
+}
+
 // The setup packet that a call sends: the one that it has for an interface, or else the one that it says.
 fn setup(call: &Call) -> Option<[u8; 8]>
     ensures { result ≡ setup_by call.now.target call.now }
 {
     match call.target {
-        Target::Interface { interface, .. } => {
-            setup_for(call.code, interface, &call.numbers, &call.bytes)
-        }
+        Target::Interface { interface, .. } => interface_setup(call.operation(), interface),
         _ => call.setup,
+    }
+}
+
+// Length of an operation's first window on an interface, of so many bytes.
+fn interface_window(operation: Operation, len: u32) -> u32
+    ensures { result ≡ interface_window len operation }
+{
+    match operation {
+        Operation::Interface(asked) => window_for(asked, len),
+        _ => len,
     }
 }
 
@@ -107,7 +148,7 @@ fn window(call: &Call, len: u32) -> u32
     ensures { result ≡ window_by call.now.target call.now len }
 {
     match call.target {
-        Target::Interface { .. } => window_for(call.code, len),
+        Target::Interface { .. } => interface_window(call.operation(), len),
         _ => len,
     }
 }

@@ -4,50 +4,49 @@ ghost use Rattle.usb_scene.specs.declared.scene.Scene.{Scene};
 ghost use Rattle.usb_prepare.specs.Prepared.{bindings_of};
 ghost use Rattle.usb_types.specs.declared.urb.UrbId.{UrbId};
 ghost use Rattle.usb_bind.specs.Board.{is_binding_of, urb_of_role};
-ghost use Rattle.usb_class.specs.Calls.{urb_for as urb_of_call};
-ghost use Rattle.usb_line.specs.Prepared.{host_call_on, host_call_alone, host_call_on_any, host_call_called as host_call_of_called, host_call_of, pass_of, main_pass};
+ghost use Rattle.usb_line.specs.Prepared.{host_call_on, host_call_alone, host_call_on_any, host_call_called as host_call_of_called, called_of, host_call_of, pass_of, main_pass};
 
 use crate::made::HostCall;
 use usb_bind::Bound;
 use usb_class::urb_for;
 use usb_machine::HUB;
-use usb_scene::{Call, Scene, Target};
-use usb_types::Role;
+use usb_scene::{Call, Operation, Scene, Target};
+use usb_types::{Role, UrbId};
 
-// What a call with this number in the table of calls does to an URB.
-fn host_call_to(code: u32, urb: u32) -> HostCall
-    ensures { result ≡ host_call_on code urb }
+// What an operation does to an URB.
+fn host_call_to(operation: Operation, urb: u32) -> HostCall
+    ensures { result ≡ host_call_on operation urb }
 {
-    match code {
-        1 => HostCall::Submit(urb),
-        2 => HostCall::Unlink(urb),
-        3 => HostCall::Kill(urb),
-        4 => HostCall::Poison(urb),
-        5 => HostCall::Unpoison(urb),
-        6 => HostCall::Block(urb),
-        7 => HostCall::Unblock(urb),
+    match operation {
+        Operation::Submit => HostCall::Submit(urb),
+        Operation::Unlink => HostCall::Unlink(urb),
+        Operation::Kill => HostCall::Kill(urb),
+        Operation::Poison => HostCall::Poison(urb),
+        Operation::Unpoison => HostCall::Unpoison(urb),
+        Operation::Block => HostCall::Block(urb),
+        Operation::Unblock => HostCall::Unblock(urb),
         _ => HostCall::Other,
     }
 }
 
 // And what it does on nothing in particular.
-fn host_call_by_itself(code: u32) -> HostCall
-    ensures { result ≡ host_call_alone code }
+fn host_call_by_itself(operation: Operation) -> HostCall
+    ensures { result ≡ host_call_alone operation }
 {
-    match code {
-        8 => HostCall::Serve,
-        21 => HostCall::Down,
-        22 => HostCall::Up,
+    match operation {
+        Operation::Serve => HostCall::Serve,
+        Operation::Down => HostCall::Down,
+        Operation::Up => HostCall::Up,
         _ => HostCall::Other,
     }
 }
 
 // And what it does to an URB of a driver, where there is one.
-fn host_call_to_any(code: u32, urb: Option<u32>) -> HostCall
-    ensures { result ≡ host_call_on_any code urb }
+fn host_call_to_any(operation: Operation, urb: Option<u32>) -> HostCall
+    ensures { result ≡ host_call_on_any operation urb }
 {
     match urb {
-        Some(urb) => host_call_to(code, urb),
+        Some(urb) => host_call_to(operation, urb),
         None => HostCall::Absent,
     }
 }
@@ -69,11 +68,21 @@ fn bound_urb(bound: Option<Bound>, role: Role) -> Option<u32>
     Some(bound?.urb(role)?.0)
 }
 
-// The number of the URB that a call on an interface submits.
-fn called_urb(code: u32, bound: Option<Bound>) -> Option<u32>
-    ensures { result ≡ option_map (λ (u : UrbId). u.0) (option_and_then (urb_of_call code) bound) }
+// The URB of a binding that an operation on its interface submits.
+fn called_of(operation: Operation, bound: &Bound) -> Option<UrbId>
+    ensures { result ≡ called_of operation bound.now }
 {
-    Some(urb_for(code, &bound?)?.0)
+    match operation {
+        Operation::Interface(asked) => urb_for(asked, bound),
+        _ => None,
+    }
+}
+
+// The number of the URB that an operation on an interface submits.
+fn called_urb(operation: Operation, bound: Option<Bound>) -> Option<u32>
+    ensures { result ≡ option_map (λ (u : UrbId). u.0) (option_and_then (called_of operation) bound) }
+{
+    Some(called_of(operation, &bound?)?.0)
 }
 
 // And what it does there.
@@ -91,19 +100,20 @@ fn host_call_called(urb: Option<u32>) -> HostCall
 pub fn host_call_in(bindings: &[Bound], call: &Call) -> HostCall
     ensures { (s : Scene) → bindings.now ≡ bindings_of s → result ≡ host_call_of s call.now }
 {
+    let operation = call.operation();
     match call.target {
-        Target::Nothing => host_call_by_itself(call.code),
-        Target::Urb(urb) => host_call_to(call.code, urb),
+        Target::Nothing => host_call_by_itself(operation),
+        Target::Urb(urb) => host_call_to(operation, urb),
         Target::Role {
             device,
             interface,
             role,
         } => host_call_to_any(
-            call.code,
+            operation,
             bound_urb(binding_of(bindings, device, interface), role),
         ),
         Target::Interface { device, interface } => host_call_called(called_urb(
-            call.code,
+            operation,
             binding_of(bindings, device, interface),
         )),
         Target::Anchor(_) | Target::Device(_) => HostCall::Other,

@@ -5,7 +5,7 @@ use Rattle.std.specs.Fmt.{digits}
 use Rattle.usb_types.specs.declared.errno.Errno.TheVariants.{EPIPE, ENOENT}
 use Rattle.usb_types.specs.declared.errno.Code.TheVariants.{Zero, Fault}
 use Rattle.usb_types.specs.declared.urb.Role.TheVariants.{Read0}
-use Rattle.usb_types.specs.Rows.{call_table, class_table, request_table, usage_table}
+use Rattle.usb_types.specs.Rows.{class_table, request_table, usage_table}
 use Rattle.usb_desc.specs.declared.fault.DescFault.TheVariants.{Short, TotalLength}
 use Rattle.usb_ctrl.specs.declared.fault.EnumFault.TheVariants as enum
 use Rattle.usb_bind.specs.declared.row.Driver.TheVariants as driver
@@ -15,6 +15,7 @@ use Rattle.usb_class.specs.declared.class_core.Told.TheVariants.{Keys, Serial}
 use Rattle.usb_scene.specs.declared.scene.Scene.{Scene}
 use Rattle.usb_scene.specs.declared.scene.SceneDevice.{SceneDevice}
 use Rattle.usb_scene.specs.declared.scene.Target.TheVariants as on
+use Rattle.usb_scene.specs.declared.operation.Operation.TheVariants.{Kill}
 use Rattle.usb_prepare.specs.declared.found.Taken.TheVariants as taken
 use Rattle.usb_prepare.specs.declared.found.InterfaceFound.{InterfaceFound}
 use Rattle.usb_prepare.specs.declared.found.Found.{Found}
@@ -89,14 +90,14 @@ module _ (any : SceneDevice) where
   outcome_of_one = record {
     found = found.Raw ∷ [];
     board = record { devices = []; firsts = []; bindings = modem ∷ [] };
-    made = record { thread = 0; line = 7; code = 3; target = on.Role 1 0 Read0; answer = told.Buffer None } ∷ [];
+    made = record { thread = 0; line = 7; operation = Kill; target = on.Role 1 0 Read0; answer = told.Buffer None } ∷ [];
     given = record { urb = 0; status = Fault ENOENT; actual = 2; outcome = outcome.Again Zero; bytes = 0x0A ∷ 0xFF ∷ [] } ∷ [];
     told = Serial [] 0 ∷ [];
     ends = [];
   }
 
   reported : text_of scene outcome_of_one ≡ codes "thread t\n7 kill m.0.read0 none\ngiven\na -ENOENT 2 again 0 0AFF\ndriver m 0 cdc_acm\n"
-  unfolding digits urb_name call_table
+  unfolding digits urb_name
   reported = refl
 
   -- a keyboard's driver reports its keys, of which one has no name, and its lights

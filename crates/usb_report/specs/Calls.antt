@@ -1,23 +1,18 @@
 -- The threads of a report, with their calls and what these answered.
-use Rattle.std.specs.Prelude.{ℕ, ◌==◌, Bool, true, false, if◌then◌else◌, List, [], ◌∷◌, ◌++◌, filter, codes, decimal, Option, Some, None, unwrap_or}
+use Rattle.std.specs.Prelude.{ℕ, ◌==◌, Bool, true, false, if◌then◌else◌, List, [], ◌∷◌, ◌++◌, filter, codes, decimal, Option, Some, None}
 use Rattle.std.specs.List.{flat_map}
 use Rattle.usb_types.specs.Codes.{code_text}
-use Rattle.usb_types.specs.Table.{name_at}
-use Rattle.usb_types.specs.Rows.{call_table}
 use Rattle.usb_text.specs.Print.{line}
 use Rattle.usb_scene.specs.declared.scene.Scene.{Scene}
 use Rattle.usb_scene.specs.declared.scene.SceneThread.{SceneThread}
 use Rattle.usb_scene.specs.declared.scene.Target.{Target}
 use Rattle.usb_scene.specs.declared.scene.Target.TheVariants as on
+use Rattle.usb_scene.specs.Operation.{operation_text}
 use Rattle.usb_line.specs.declared.made.CallAnswer.{CallAnswer}
 use Rattle.usb_line.specs.declared.made.CallAnswer.TheVariants as told
 use Rattle.usb_line.specs.declared.made.CallMade.{CallMade}
 use Rattle.usb_report.specs.Numbered.{numbered}
 use Rattle.usb_report.specs.Names.{device_name, own_name_or, role_name}
-
--- a call's word, which the table of calls has for its number
-abbrev pub call_word : ℕ → List ℕ
-call_word code = unwrap_or (name_at call_table code) []
 
 -- the words of a target, each with the space after it
 abbrev pub target_text : Scene → Target → List ℕ
@@ -39,7 +34,7 @@ answer_text (told.Buffer n) = buffer_text n
 
 -- LINE CALL TARGET and a space
 abbrev pub call_text : Scene → CallMade → List ℕ
-call_text s m = decimal m.line ++ codes " " ++ call_word m.code ++ codes " " ++ target_text s m.target
+call_text s m = decimal m.line ++ codes " " ++ operation_text m.operation ++ codes " " ++ target_text s m.target
 
 abbrev pub is_told : CallAnswer → Bool
 is_told told.Nothing = false

@@ -2,23 +2,13 @@
 ghost use Rattle.std.specs.Prelude.{◌≡◌, ◌<◌, ◌^◌, ◌++◌, [], ◌∷◌, OnOk, length, codes, decimal};
 ghost use Rattle.std.specs.List.{flat_map};
 ghost use Rattle.usb_report.specs.Names.{device_name};
-ghost use Rattle.usb_report.specs.Calls.{call_word, target_text, buffer_text, answer_text, call_text, is_told, made_text, made_by, thread_text, threads_text};
+ghost use Rattle.usb_report.specs.Calls.{target_text, buffer_text, answer_text, call_text, is_told, made_text, made_by, thread_text, threads_text};
 
 use crate::names::{push_device, push_own_urb, push_role};
 use usb_line::{CallAnswer, CallMade};
 use usb_scene::{Scene, SceneThread, Target};
 use usb_text::push_number;
-use usb_types::{Buf, Memory, calls, name_of};
-
-// A call's word, by the table of calls.
-fn call_word(code: u32) -> &'static str
-    ensures { result.now ≡ call_word code }
-{
-    match name_of(&calls(), code) {
-        Some(name) => name,
-        None => "",
-    }
-}
+use usb_types::{Buf, Memory};
 
 // The name of a device and the number of its interface, each with the space after it.
 fn push_interface(report: &mut Buf, scene: &Scene, device: u32, interface: u8) -> Result<(), Memory>
@@ -57,7 +47,7 @@ fn push_call(report: &mut Buf, scene: &Scene, made: &CallMade) -> Result<(), Mem
 {
     push_number(report, made.line as u64)?;
     report.append(b" ")?;
-    report.append(call_word(made.code).as_bytes())?;
+    report.append(made.operation.word().as_bytes())?;
     report.append(b" ")?;
     push_target(report, scene, made.target)
 }

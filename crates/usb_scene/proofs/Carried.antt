@@ -6,7 +6,7 @@ use Rattle.usb_scene.specs.declared.scene.Call.{Call}
 use Rattle.usb_statement.specs.InterfaceCalls.{is_data_bits}
 use Rattle.usb_scene.specs.WellFormed.{IsCoding}
 
-data_bits_most : (n : ℕ) → is_data_bits n ≡ true → n ≤ 16
+pub data_bits_most : (n : ℕ) → is_data_bits n ≡ true → n ≤ 16
 data_bits_most n h =
     elim (or_cases (nat_le 5 n && nat_le n 8) (n == 16) h) as (λ _. n ≤ 16) [
       | inl x ↦ let most = leb-true n 8 (and_parts (nat_le 5 n) (nat_le n 8) x).1 in omega arith

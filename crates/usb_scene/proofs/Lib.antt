@@ -9,6 +9,7 @@ mod FirstBad
 mod GoodLines
 mod HeldCounts
 mod Naming
+pub mod Operations
 mod Placed
 pub mod PrintedScenes
 mod Pushed

@@ -2,6 +2,7 @@ pub mod Causes
 pub mod Counts
 pub mod Growth
 pub mod Named
+pub mod Operation
 pub mod PrintedScene
 pub mod Read
 pub mod Rules

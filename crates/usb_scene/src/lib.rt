@@ -7,6 +7,8 @@ mod draft;
 mod growth;
 mod lines;
 mod names;
+mod operation;
+mod operation_laws;
 mod read;
 mod rejects;
 mod room;
@@ -16,6 +18,10 @@ mod scene_laws;
 
 pub use cause::Cause;
 pub use lines::{Line, split};
+pub use operation::{InterfaceOp, Operation};
+pub use operation_laws::{
+    a_call_asks_for_what_its_line_says, a_call_asks_for_what_its_number_says,
+};
 pub use read::{SceneFault, read_scene};
 pub use scene::{Call, Scene, SceneDevice, SceneThread, SceneUrb, Target};
 pub use scene_laws::{

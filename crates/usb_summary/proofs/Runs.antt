@@ -1,6 +1,6 @@
 -- What the calls and the givebacks of a run count, each by what is kept of it.
-use Rattle.std.proofs.Common.{ℕ, zero, suc, ◌≡◌, ◌+◌, ◌*◌, ◌<◌, ◌≤◌, ◌⊎◌, inl, inr, Bool, true, false, eqb, List, [], ◌∷◌, length, map, Option, None, refl, sym, ap, ◌∙◌, subst, arith, true≢false}
-use Rattle.std.specs.Prelude.{slice_get, if◌then◌else◌}
+use Rattle.std.proofs.Common.{ℕ, zero, suc, ◌≡◌, ◌+◌, ◌*◌, ◌<◌, Bool, true, false, List, [], ◌∷◌, length, map, Option, None, refl, sym, ap, ◌∙◌, arith, true≢false}
+use Rattle.std.specs.Prelude.{slice_get}
 use Rattle.std.specs.List.{flat_map, count_by, All}
 use Rattle.std.proofs.lemmas.Bool.{and_parts}
 use Rattle.usb_types.specs.declared.errno.Errno.{Errno}
@@ -16,6 +16,9 @@ use Rattle.usb_scene.specs.declared.scene.SceneDevice.{SceneDevice}
 use Rattle.usb_scene.specs.declared.scene.Call.{Call}
 use Rattle.usb_scene.specs.declared.scene.Target.{Target}
 use Rattle.usb_scene.specs.declared.scene.Target.TheVariants as target
+use Rattle.usb_scene.specs.declared.operation.Operation.{Operation}
+use Rattle.usb_scene.specs.declared.operation.Operation.TheVariants as op
+use Rattle.usb_scene.specs.Operation.{operation_of}
 use Rattle.usb_scene.specs.WellFormed.{is_raw, HasDrivers, IsBuilt, IsCall}
 use Rattle.usb_line.specs.declared.made.CallAnswer.{CallAnswer}
 use Rattle.usb_line.specs.declared.made.CallAnswer.TheVariants as told
@@ -27,7 +30,7 @@ use Rattle.usb_line.specs.Prepared.{DriverQuestion, question_at, host_call_on, h
 use Rattle.usb_line.specs.Run.{CallRecord, Giveback, IsAnswered, IsMade, host_call_entries, call_entries, submit_of, moved_in, resent, handled_by, given_entries, handler_entries, giveback_entries}
 use Rattle.usb_line.specs.GivebackRow.{giveback_row}
 use Rattle.usb_line.specs.Outcome.{made_of}
-use Rattle.usb_summary.specs.Counts.{code_in, submit_code, again_code, is_some_of}
+use Rattle.usb_summary.specs.Counts.{code_in, submit_in, submit_code, again_code, is_some_of}
 use Rattle.usb_summary.proofs.Counting.{bit, count-cons}
 use Rattle.usb_summary.proofs.Undriven.{are_raw, none_asked}
 use Rattle.usb_summary.proofs.Entries.{IsTally, counted, counted_both, still_counted, submit_counted, give_counted, handler_counted, is_submit, still_host_call}
@@ -57,35 +60,46 @@ module _ (s : Scene) (raw : are_raw s.devices ≡ true) (takes : (u : ℕ) (c : 
   submit_call p u d told.Done near is = absurd is
   submit_call p u d (told.Buffer n) near is = absurd is
 
-  on_urb : (p code u : ℕ) (d : CallRecord) → 1 ≤ code → code ≤ 7 → u < length s.urbs → IsAnswered s d (host_call_on code u) d.answer
-      → sum_of (host_call_entries s p d.call (host_call_on code u) d.answer d.marks d.rests d.down) ≡ bit (is_some_of such (if eqb code 1 then code_in d.answer else None))
-  on_urb p zero u d low high near is = absurd (omega arith)
-  on_urb p (suc zero) u d low high near is = submit_call p u d d.answer near is
-  on_urb p (suc (suc zero)) u d low high near is = still_call p d (host_call.Unlink u) refl
-  on_urb p (suc (suc (suc zero))) u d low high near is = still_call p d (host_call.Kill u) refl
-  on_urb p (suc (suc (suc (suc zero)))) u d low high near is = still_call p d (host_call.Poison u) refl
-  on_urb p (suc (suc (suc (suc (suc zero))))) u d low high near is = still_call p d (host_call.Unpoison u) refl
-  on_urb p (suc (suc (suc (suc (suc (suc zero)))))) u d low high near is = still_call p d (host_call.Block u) refl
-  on_urb p (suc (suc (suc (suc (suc (suc (suc zero))))))) u d low high near is = still_call p d (host_call.Unblock u) refl
-  on_urb p (suc (suc (suc (suc (suc (suc (suc (suc n)))))))) u d low high near is = absurd (omega arith)
+  -- what an operation does on an URB counts as it is kept
+  on_urb : (p : ℕ) (o : Operation) (u : ℕ) (d : CallRecord) → u < length s.urbs → IsAnswered s d (host_call_on o u) d.answer
+      → sum_of (host_call_entries s p d.call (host_call_on o u) d.answer d.marks d.rests d.down) ≡ bit (is_some_of such (submit_in o d.answer))
+  on_urb p op.Submit u d near is = submit_call p u d d.answer near is
+  on_urb p op.Unlink u d near is = still_call p d (host_call.Unlink u) refl
+  on_urb p op.Kill u d near is = still_call p d (host_call.Kill u) refl
+  on_urb p op.Poison u d near is = still_call p d (host_call.Poison u) refl
+  on_urb p op.Unpoison u d near is = still_call p d (host_call.Unpoison u) refl
+  on_urb p op.Block u d near is = still_call p d (host_call.Block u) refl
+  on_urb p op.Unblock u d near is = still_call p d (host_call.Unblock u) refl
+  on_urb p op.Serve u d near is = absurd is
+  on_urb p op.Down u d near is = absurd is
+  on_urb p op.Up u d near is = absurd is
+  on_urb p (op.Interface asked) u d near is = absurd is
+  on_urb p (op.Unbuilt code) u d near is = absurd is
 
-  -- a call on nothing is no submit
-  abbrev Alone : ℕ → CallRecord → ℕ → Type 0
-  Alone p d code = sum_of (host_call_entries s p d.call (host_call_alone code) d.answer d.marks d.rests d.down) ≡ bit (is_some_of such (if eqb code 1 then code_in d.answer else None))
+  -- on nothing none submits
+  alone : (p : ℕ) (o : Operation) (d : CallRecord) → IsAnswered s d (host_call_alone o) d.answer
+      → sum_of (host_call_entries s p d.call (host_call_alone o) d.answer d.marks d.rests d.down) ≡ bit (is_some_of such (submit_in o d.answer))
+  alone p op.Serve d is = still_call p d host_call.Serve refl
+  alone p op.Down d is = still_call p d host_call.Down refl
+  alone p op.Up d is = still_call p d host_call.Up refl
+  alone p op.Submit d is = absurd is
+  alone p op.Unlink d is = absurd is
+  alone p op.Kill d is = absurd is
+  alone p op.Poison d is = absurd is
+  alone p op.Unpoison d is = absurd is
+  alone p op.Block d is = absurd is
+  alone p op.Unblock d is = absurd is
+  alone p (op.Interface asked) d is = absurd is
+  alone p (op.Unbuilt code) d is = absurd is
 
-  alone : (p code : ℕ) (d : CallRecord) → (code ≡ 8) ⊎ (code ≡ 21) ⊎ (code ≡ 22) → Alone p d code
-  alone p code d (inl e) = subst (Alone p d) (sym e) (still_call p d host_call.Serve refl)
-  alone p code d (inr (inl e)) = subst (Alone p d) (sym e) (still_call p d host_call.Down refl)
-  alone p code d (inr (inr e)) = subst (Alone p d) (sym e) (still_call p d host_call.Up refl)
-
-  by_target : (p code : ℕ) (on : Target) (d : CallRecord) → IsBuilt s code on → IsAnswered s d (host_call_by s code on) d.answer
-      → sum_of (host_call_entries s p d.call (host_call_by s code on) d.answer d.marks d.rests d.down) ≡ bit (is_some_of such (if eqb code 1 then code_in d.answer else None))
-  by_target p code target.Nothing d built is = alone p code d built
-  by_target p code (target.Urb u) d built is = on_urb p code u d built.0 built.1 built.2 is
-  by_target p code (target.Role device interface role) d built is = absurd (none_driven s.devices device raw built.3)
-  by_target p code (target.Interface device interface) d built is = absurd (none_driven s.devices device raw built.3)
-  by_target p code (target.Anchor a) d built is = absurd built
-  by_target p code (target.Device device) d built is = absurd built
+  by_target : (p code : ℕ) (o : Operation) (on : Target) (d : CallRecord) → IsBuilt s code on → IsAnswered s d (host_call_by s o on) d.answer
+      → sum_of (host_call_entries s p d.call (host_call_by s o on) d.answer d.marks d.rests d.down) ≡ bit (is_some_of such (submit_in o d.answer))
+  by_target p code o target.Nothing d built is = alone p o d is
+  by_target p code o (target.Urb u) d built is = on_urb p o u d built.2 is
+  by_target p code o (target.Role device interface role) d built is = absurd (none_driven s.devices device raw built.3)
+  by_target p code o (target.Interface device interface) d built is = absurd (none_driven s.devices device raw built.3)
+  by_target p code o (target.Anchor a) d built is = absurd built
+  by_target p code o (target.Device device) d built is = absurd built
 
   -- the calls count as what is kept of them
   pub calls_counted : (ds : List CallRecord) → All (IsMade s) ds → All (IsCall s) (map (λ (d : CallRecord). d.call) ds)
@@ -93,7 +107,7 @@ module _ (s : Scene) (raw : are_raw s.devices ≡ true) (takes : (u : ℕ) (c : 
   calls_counted [] made calls = refl
   calls_counted (d ∷ ds) made calls =
       let here : sum_of (call_entries s d) ≡ bit (is_some_of such (submit_code (made_of d))) =
-      by_target (pass_of s d.thread) d.call.code d.call.target d (calls 0 d.call (omega arith)).built (made 0 d (omega arith)).answered in
+      by_target (pass_of s d.thread) d.call.code (operation_of d.call) d.call.target d (calls 0 d.call (omega arith)).built (made 0 d (omega arith)).answered in
       let rest = calls_counted ds (λ k x l. made (suc k) x (omega arith)) (λ k x l. calls (suc k) x (omega arith)) in
       let both = counted_both q such gives t (call_entries s d) (flat_map (call_entries s) ds) in
       let more = count-cons (λ (m : CallMade). is_some_of such (submit_code m)) (made_of d) (map made_of ds) in

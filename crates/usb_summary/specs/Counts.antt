@@ -1,9 +1,11 @@
 -- What the calls and givebacks of a run add up to, where no handler asks a driver's question.
-use Rattle.std.specs.Prelude.{ℕ, ◌+◌, ◌==◌, Bool, false, not, if◌then◌else◌, List, [], ◌∷◌, length, map, count_by, Option, Some, None, codes, decimal}
+use Rattle.std.specs.Prelude.{ℕ, ◌+◌, Bool, false, not, List, [], ◌∷◌, length, map, count_by, Option, Some, None, codes, decimal}
 use Rattle.usb_types.specs.declared.errno.Code.{Code}
 use Rattle.usb_text.specs.Print.{line}
 use Rattle.usb_machine.specs.State.{is_zero}
 use Rattle.usb_generate.specs.Summary.{bytes_in}
+use Rattle.usb_scene.specs.declared.operation.Operation.{Operation}
+use Rattle.usb_scene.specs.declared.operation.Operation.TheVariants as op
 use Rattle.usb_line.specs.declared.made.CallMade.{CallMade}
 use Rattle.usb_line.specs.declared.made.CallAnswer.{CallAnswer}
 use Rattle.usb_line.specs.declared.made.CallAnswer.TheVariants as told
@@ -16,9 +18,13 @@ abbrev pub code_in : CallAnswer → Option Code
 code_in (told.Code code) = Some code
 code_in _ = None
 
--- the answer of an URB's gate to a call, if the call submits: 1 is its number in the table of calls
+-- the answer of an URB's gate to an operation, if it submits
+abbrev pub submit_in : Operation → CallAnswer → Option Code
+submit_in op.Submit answer = code_in answer
+submit_in _ answer = None
+
 abbrev pub submit_code : CallMade → Option Code
-submit_code m = if m.code == 1 then code_in m.answer else None
+submit_code m = submit_in m.operation m.answer
 
 -- the gate's answer to a handler, if it submitted its transfer again
 abbrev pub again_code : Outcome → Option Code

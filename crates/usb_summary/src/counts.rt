@@ -6,10 +6,8 @@ ghost use Rattle.usb_line.specs.declared.made.GivebackRow.{GivebackRow};
 ghost use Rattle.usb_summary.specs.Counts.{submit_code, again_code, is_fault, is_some_of, submits_in, counts_of};
 
 use usb_line::{CallAnswer, CallMade, GivebackRow, LineOutcome, Outcome};
+use usb_scene::Operation;
 use usb_types::Code;
-
-// The number of `submit` in the table of calls.
-const SUBMIT: u32 = 1;
 
 /// The numbers of a summary.
 #[derive(Clone, Copy)]
@@ -24,12 +22,9 @@ pub struct Counts {
 fn submit_code(made: &CallMade) -> Option<Code>
     ensures { result ≡ submit_code made.now }
 {
-    if made.code != SUBMIT {
-        return None;
-    }
-    match made.answer {
-        CallAnswer::Code(code) => Some(code),
-        CallAnswer::Nothing | CallAnswer::Done | CallAnswer::Buffer(_) => None,
+    match (made.operation, made.answer) {
+        (Operation::Submit, CallAnswer::Code(code)) => Some(code),
+        _ => None,
     }
 }
 

@@ -1,6 +1,7 @@
 use Rattle.std.proofs.Common.{◌≡◌, ◌++◌, [], ◌∷◌, map, take, get_or, sym, ap, ◌∙◌, subst, arith, append-nil}
 use Rattle.std.proofs.lemmas.Grind.{common_steps}
 use Rattle.usb_scene.specs.declared.scene.Call.{Call}
+use Rattle.usb_scene.specs.Operation.{operation_of}
 use Rattle.usb_line.specs.Prepared.{calls_from}
 use Rattle.usb_line.specs.Calls.{Made, MayBeMade, IsUnderway}
 use Rattle.usb_line.proofs.Threads.{next_here, made_row, one_made}
@@ -23,8 +24,9 @@ loop-call-preserved c =
     let may = next_here s c.requires.good i c.requires.there calls c.requires.script c.loop-call.self c.loop-call.made k d c.loop-call-test.true at in
     let done : Made s at.far i (get_or calls k d) c.in_ok-answer.answer c.make.new.self
     = subst (λ x. Made s at.far i x c.in_ok-answer.answer c.make.new.self) c.call-item.is (c.in_ok-answer.ensures at.far (subst (λ x. MayBeMade s at.far i x c.loop-call.self) (sym c.call-item.is) may)) in
-    let row : record { thread = i; line = d.line; code = d.code; target = d.target; answer = c.in_ok-answer.answer } ≡ made_row i (get_or calls k d) c.in_ok-answer.answer
-    = (λ j. record { thread = i; line = (c.call-item.is j).line; code = (c.call-item.is j).code; target = (c.call-item.is j).target; answer = c.in_ok-answer.answer }) in
+    let asked : c.operation.result ≡ operation_of (get_or calls k d) = c.operation.ensures ∙ ap operation_of c.call-item.is in
+    let row : record { thread = i; line = d.line; operation = c.operation.result; target = d.target; answer = c.in_ok-answer.answer } ≡ made_row i (get_or calls k d) c.in_ok-answer.answer
+    = (λ j. record { thread = i; line = (c.call-item.is j).line; operation = asked j; target = (c.call-item.is j).target; answer = c.in_ok-answer.answer }) in
     one_made s c.requires.good i c.requires.there calls c.requires.script c.loop-call.self c.loop-call.made k d c.loop-call-test.true at c.in_ok-answer.answer c.make.new.self c.push.new.self done
     (c.in_ok-push.ensures.ok ∙ ap (λ x. c.loop-call.made ++ x ∷ []) row)
 
