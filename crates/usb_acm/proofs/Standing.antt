@@ -12,17 +12,17 @@ use Rattle.usb_types.specs.declared.urb.Role.TheVariants.{In, Note as NoteRole, 
 use Rattle.usb_acm.specs.declared.event.Event.{Event}
 use Rattle.usb_acm.specs.Notifications.{notes, unfinished, behind_within}
 use Rattle.usb_machine.specs.Completion.{Completion, moved_bytes}
-use Rattle.usb_acm.specs.Serial.{is_data, succeeded, bytes_where, lost, capped, joined, stream_behind, stream_of, events_with, events_of, events_behind, serial_events}
+use Rattle.usb_acm.specs.Serial.{is_data, succeeded, bytes_where, lost, capped, joined, stream_after, stream_of, events_with, events_of, events_after, serial_events}
 use Rattle.usb_acm.specs.Acm.{AcmState, part_with, dropped_with, Notes, IsAfter}
 use Rattle.usb_acm.proofs.Streams.{unfinished-append, notes_more-part}
 
-pub stream_behind-append : (stream : List ℕ) (done after : List Completion) → stream_behind stream (done ++ after) ≡ stream_behind (stream_behind stream done) after
-stream_behind-append stream [] after = refl
-stream_behind-append stream (c ∷ done) after = stream_behind-append (joined stream c.role c.status (moved_bytes c.transfer)) done after
+pub stream_after-append : (stream : List ℕ) (done after : List Completion) → stream_after stream (done ++ after) ≡ stream_after (stream_after stream done) after
+stream_after-append stream [] after = refl
+stream_after-append stream (c ∷ done) after = stream_after-append (joined stream c.role c.status (moved_bytes c.transfer)) done after
 
-pub stream_of-append : (done after : List Completion) → stream_of (done ++ after) ≡ stream_behind (stream_of done) after
+pub stream_of-append : (done after : List Completion) → stream_of (done ++ after) ≡ stream_after (stream_of done) after
 unfolding stream_of
-stream_of-append done after = stream_behind-append [] done after
+stream_of-append done after = stream_after-append [] done after
 
 pub bytes_where-append : (p : Completion → Bool) (done after : List Completion) → bytes_where p (done ++ after) ≡ bytes_where p done ++ bytes_where p after
 bytes_where-append p done after =
@@ -37,16 +37,16 @@ lost-append done after =
     fails : Completion → Bool
     fails c = is_data c.role && not (succeeded c.status)
 
-events_behind-append : (before done after : List Completion) → events_behind before (done ++ after) ≡ events_behind before done ++ events_behind (before ++ done) after
-events_behind-append before [] after = ap (λ (b : List Completion). events_behind b after) (sym (append-nil before))
-events_behind-append before (c ∷ done) after =
-    ap (λ (es : List Event). events_of before c ++ es) (events_behind-append (before ++ c ∷ []) done after)
-    ∙ sym (append_assoc (events_of before c) (events_behind (before ++ c ∷ []) done) (events_behind ((before ++ c ∷ []) ++ done) after))
-    ∙ ap (λ (b : List Completion). (events_of before c ++ events_behind (before ++ c ∷ []) done) ++ events_behind b after) (append_assoc before (c ∷ []) done)
+events_after-append : (before done after : List Completion) → events_after before (done ++ after) ≡ events_after before done ++ events_after (before ++ done) after
+events_after-append before [] after = ap (λ (b : List Completion). events_after b after) (sym (append-nil before))
+events_after-append before (c ∷ done) after =
+    ap (λ (es : List Event). events_of before c ++ es) (events_after-append (before ++ c ∷ []) done after)
+    ∙ sym (append_assoc (events_of before c) (events_after (before ++ c ∷ []) done) (events_after ((before ++ c ∷ []) ++ done) after))
+    ∙ ap (λ (b : List Completion). (events_of before c ++ events_after (before ++ c ∷ []) done) ++ events_after b after) (append_assoc before (c ∷ []) done)
 
-pub serial_events-append : (before after : List Completion) → serial_events (before ++ after) ≡ serial_events before ++ events_behind before after
+pub serial_events-append : (before after : List Completion) → serial_events (before ++ after) ≡ serial_events before ++ events_after before after
 unfolding serial_events
-serial_events-append before after = events_behind-append [] before after
+serial_events-append before after = events_after-append [] before after
 
 pub serial_events-snoc : (done : List Completion) (c : Completion) → serial_events (done ++ c ∷ []) ≡ serial_events done ++ events_of done c
 serial_events-snoc done c = serial_events-append done (c ∷ []) ∙ ap (λ (es : List Event). serial_events done ++ es) (append-nil (events_of done c))

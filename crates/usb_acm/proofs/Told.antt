@@ -14,7 +14,7 @@ use Rattle.usb_acm.specs.declared.event.Event.{Event}
 use Rattle.usb_acm.specs.declared.event.Event.TheVariants.{State, Note, BadNote, Coding}
 use Rattle.usb_acm.specs.Notifications.{is_bad, is_state, is_whole, note_length, event_of, notes, unfinished}
 use Rattle.usb_machine.specs.Completion.{Completion, moved_bytes}
-use Rattle.usb_acm.specs.Serial.{is_data, succeeded, bytes_moved, bytes_where, received, lost, joined, stream_behind, stream_of, notes_more, sets_coding, events_with, events_of, events_behind, serial_events}
+use Rattle.usb_acm.specs.Serial.{is_data, succeeded, bytes_moved, bytes_where, received, lost, joined, stream_after, stream_of, notes_more, sets_coding, events_with, events_of, events_after, serial_events}
 use Rattle.usb_acm.specs.Told.{bytes_in, bytes_told, read_bytes, IsNote}
 use Rattle.usb_acm.proofs.Streams.{whole-head, shorter, notes-whole, notes-none, unfinished-not_whole, notes_more-part, notes_more-append}
 use Rattle.usb_acm.proofs.Standing.{stream_of-append, bytes_where-append, lost-append, serial_events-append}
@@ -34,30 +34,30 @@ note_joined s c is =
     ap (λ (role : Role). joined s role c.status (moved_bytes c.transfer)) is.role
     ∙ ap (λ (status : Code). joined s NoteRole status (moved_bytes c.transfer)) is.status
 
-notes_told : (before cuts : List Completion) → All IsNote cuts → events_behind before cuts ≡ notes_more (stream_of before) (bytes_moved cuts)
+notes_told : (before cuts : List Completion) → All IsNote cuts → events_after before cuts ≡ notes_more (stream_of before) (bytes_moved cuts)
 notes_told before [] are = sym (nothing_more (stream_of before))
 notes_told before (c ∷ cuts) are =
     let here : IsNote c = All-head IsNote c cuts are in
-    ap (λ (es : List Event). es ++ events_behind (before ++ c ∷ []) cuts) (note_told (stream_of before) c here)
+    ap (λ (es : List Event). es ++ events_after (before ++ c ∷ []) cuts) (note_told (stream_of before) c here)
     ∙ ap (λ (es : List Event). notes_more (stream_of before) (moved_bytes c.transfer) ++ es)
     (notes_told (before ++ c ∷ []) cuts (All-tail IsNote c cuts are)
     ∙ ap (λ (s : List ℕ). notes_more s (bytes_moved cuts)) (stream_of-append before (c ∷ []) ∙ note_joined (stream_of before) c here))
     ∙ sym (notes_more-append (stream_of before) (moved_bytes c.transfer) (bytes_moved cuts))
 
-notes_joined : (stream : List ℕ) (cuts : List Completion) → All IsNote cuts → stream_behind stream cuts ≡ stream ++ bytes_moved cuts
+notes_joined : (stream : List ℕ) (cuts : List Completion) → All IsNote cuts → stream_after stream cuts ≡ stream ++ bytes_moved cuts
 notes_joined stream [] are = sym (append-nil stream)
 notes_joined stream (c ∷ cuts) are =
-    ap (λ (s : List ℕ). stream_behind s cuts) (note_joined stream c (All-head IsNote c cuts are))
+    ap (λ (s : List ℕ). stream_after s cuts) (note_joined stream c (All-head IsNote c cuts are))
     ∙ notes_joined (stream ++ moved_bytes c.transfer) cuts (All-tail IsNote c cuts are)
     ∙ append_assoc stream (moved_bytes c.transfer) (bytes_moved cuts)
 
 -- what follows depends on the stream alone
-same_behind : (before other rest : List Completion) → stream_of before ≡ stream_of other → events_behind before rest ≡ events_behind other rest
-same_behind before other [] e = refl
-same_behind before other (c ∷ rest) e =
-    ap (λ (s : List ℕ). events_with (notes_more s (moved_bytes c.transfer)) c.role c.status c.transfer.setup (moved_bytes c.transfer) ++ events_behind (before ++ c ∷ []) rest) e
+same_after : (before other rest : List Completion) → stream_of before ≡ stream_of other → events_after before rest ≡ events_after other rest
+same_after before other [] e = refl
+same_after before other (c ∷ rest) e =
+    ap (λ (s : List ℕ). events_with (notes_more s (moved_bytes c.transfer)) c.role c.status c.transfer.setup (moved_bytes c.transfer) ++ events_after (before ++ c ∷ []) rest) e
     ∙ ap (λ (es : List Event). events_of other c ++ es)
-    (same_behind (before ++ c ∷ []) (other ++ c ∷ []) rest
+    (same_after (before ++ c ∷ []) (other ++ c ∷ []) rest
     (stream_of-append before (c ∷ []) ∙ ap (λ (s : List ℕ). joined s c.role c.status (moved_bytes c.transfer)) e ∙ sym (stream_of-append other (c ∷ []))))
 
 stream_with_notes : (before cuts : List Completion) → All IsNote cuts → stream_of (before ++ cuts) ≡ stream_of before ++ bytes_moved cuts
@@ -67,10 +67,10 @@ pub cut_anywhere : (before after cuts others : List Completion) → All IsNote c
     → serial_events (before ++ cuts ++ after) ≡ serial_events (before ++ others ++ after)
 cut_anywhere before after cuts others are too e =
     serial_events-append (before ++ cuts) after
-    ∙ ap (λ (es : List Event). es ++ events_behind (before ++ cuts) after)
+    ∙ ap (λ (es : List Event). es ++ events_after (before ++ cuts) after)
     (told cuts are ∙ ap (λ (xs : List ℕ). serial_events before ++ notes_more (stream_of before) xs) e ∙ sym (told others too))
     ∙ ap (λ (es : List Event). serial_events (before ++ others) ++ es)
-    (same_behind (before ++ cuts) (before ++ others) after
+    (same_after (before ++ cuts) (before ++ others) after
     (stream_with_notes before cuts are ∙ ap (λ (xs : List ℕ). stream_of before ++ xs) e ∙ sym (stream_with_notes before others too)))
     ∙ sym (serial_events-append (before ++ others) after)
   where
@@ -140,17 +140,17 @@ one_moved : (b : Bool) (c : Completion) → concat (cond b (moved_bytes c.transf
 one_moved true c = refl
 one_moved false c = refl
 
-told_behind : (before rest : List Completion) → bytes_told (events_behind before rest) ≡ received rest
-told_behind before [] = refl
-told_behind before (c ∷ rest) =
-    bytes_told-append (events_of before c) (events_behind (before ++ c ∷ []) rest)
-    ∙ ap (λ (xs : List ℕ). xs ++ bytes_told (events_behind (before ++ c ∷ []) rest)) (told_of (stream_of before) c.role c.status c.transfer.setup (moved_bytes c.transfer) ∙ one_moved (receives c) c)
-    ∙ ap (λ (xs : List ℕ). bytes_where receives (c ∷ []) ++ xs) (told_behind (before ++ c ∷ []) rest)
+told_after : (before rest : List Completion) → bytes_told (events_after before rest) ≡ received rest
+told_after before [] = refl
+told_after before (c ∷ rest) =
+    bytes_told-append (events_of before c) (events_after (before ++ c ∷ []) rest)
+    ∙ ap (λ (xs : List ℕ). xs ++ bytes_told (events_after (before ++ c ∷ []) rest)) (told_of (stream_of before) c.role c.status c.transfer.setup (moved_bytes c.transfer) ∙ one_moved (receives c) c)
+    ∙ ap (λ (xs : List ℕ). bytes_where receives (c ∷ []) ++ xs) (told_after (before ++ c ∷ []) rest)
     ∙ sym (bytes_where-append receives (c ∷ []) rest)
 
 pub told_is_received : (done : List Completion) → bytes_told (serial_events done) ≡ received done
 unfolding serial_events
-told_is_received done = told_behind [] done
+told_is_received done = told_after [] done
 
 one_read : (c : Completion) → length (received (c ∷ [])) + lost (c ∷ []) ≡ length (read_bytes (c ∷ []))
 one_read c = go (is_data c.role) (succeeded c.status)

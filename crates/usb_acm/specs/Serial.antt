@@ -46,13 +46,13 @@ joined stream NoteRole Zero moved = stream ++ moved
 joined stream NoteRole (Fault errno) moved = []
 joined stream role status moved = stream
 
-abbrev pub stream_behind : List ℕ → List Completion → List ℕ
-stream_behind stream [] = stream
-stream_behind stream (c ∷ done) = stream_behind (joined stream c.role c.status (moved_bytes c.transfer)) done
+abbrev pub stream_after : List ℕ → List Completion → List ℕ
+stream_after stream [] = stream
+stream_after stream (c ∷ done) = stream_after (joined stream c.role c.status (moved_bytes c.transfer)) done
 
 -- the stream of notes that stands: all their bytes since the last one that failed
 unfoldable pub stream_of : List Completion → List ℕ
-stream_of done = stream_behind [] done
+stream_of done = stream_after [] done
 
 -- the notifications of a stream whose last byte is among the moved ones, which come after it
 unfoldable pub notes_more : List ℕ → List ℕ → List Event
@@ -84,10 +84,10 @@ events_with ended role status setup moved = []
 abbrev pub events_of : List Completion → Completion → List Event
 events_of before c = events_with (notes_more (stream_of before) (moved_bytes c.transfer)) c.role c.status c.transfer.setup (moved_bytes c.transfer)
 
-abbrev pub events_behind : List Completion → List Completion → List Event
-events_behind before [] = []
-events_behind before (c ∷ rest) = events_of before c ++ events_behind (before ++ c ∷ []) rest
+abbrev pub events_after : List Completion → List Completion → List Event
+events_after before [] = []
+events_after before (c ∷ rest) = events_of before c ++ events_after (before ++ c ∷ []) rest
 
 -- the events of a serial port
 unfoldable pub serial_events : List Completion → List Event
-serial_events done = events_behind [] done
+serial_events done = events_after [] done

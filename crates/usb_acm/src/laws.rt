@@ -2,12 +2,12 @@
 ghost use Rattle.std.specs.Prelude.{◌≡◌, ◌++◌, ◌∷◌, [], ◌+◌, ◌<◌, ℕ, List, All, length, drop, true, false};
 ghost use Rattle.usb_machine.specs.Completion.{Completion};
 ghost use Rattle.usb_acm.specs.Notifications.{note_length, is_whole, event_of, notes, unfinished};
-ghost use Rattle.usb_acm.specs.Serial.{bytes_moved, received, lost, serial_events, events_behind};
+ghost use Rattle.usb_acm.specs.Serial.{bytes_moved, received, lost, serial_events, events_after};
 ghost use Rattle.usb_acm.specs.Told.{bytes_told, read_bytes, IsNote};
 
 /// What was reported stays reported: completions that follow add events after those so far.
 pub fn events_only_grow()
-    ensures { (before after : List Completion) → serial_events (before ++ after) ≡ serial_events before ++ events_behind before after }
+    ensures { (before after : List Completion) → serial_events (before ++ after) ≡ serial_events before ++ events_after before after }
 {}
 
 /// However a stream of notes is cut into completions, the events are the same, and so are those that follow. Any bytes are

@@ -46,9 +46,9 @@ abbrev rest_of : List End → List End → List End
 rest_of ends [] = []
 rest_of ends (e ∷ more) = joined_rest ends e (joins ends e) (rest_of (joined ends e) more)
 
-pub joined_behind : (ends more : List End) → fold joined ends more ≡ ends ++ rest_of ends more
-joined_behind ends [] = sym (append-nil ends)
-joined_behind ends (e ∷ more) = joined_behind (joined ends e) more ∙ joined_is ends (rest_of (joined ends e) more) e (joins ends e)
+pub joined_after : (ends more : List End) → fold joined ends more ≡ ends ++ rest_of ends more
+joined_after ends [] = sym (append-nil ends)
+joined_after ends (e ∷ more) = joined_after (joined ends e) more ∙ joined_is ends (rest_of (joined ends e) more) e (joins ends e)
 
 or_false : (a b : Bool) → (a || b) ≡ false → (a ≡ false) × (b ≡ false)
 or_false true b h = cc
@@ -83,7 +83,7 @@ placed_first before ends i d address h lacks new here =
     ap (fold joined before) cut ∙ fold-append joined before (take i ends) (e ∷ drop (suc i) ends) in
     let added : joined so_far e ≡ so_far ++ e ∷ [] = rw new refl in
     let split : fold joined before ends ≡ (so_far ++ e ∷ []) ++ rest_of (so_far ++ e ∷ []) (drop (suc i) ends) =
-    whole ∙ ap (λ t. fold joined t (drop (suc i) ends)) added ∙ joined_behind (so_far ++ e ∷ []) (drop (suc i) ends) in
+    whole ∙ ap (λ t. fold joined t (drop (suc i) ends)) added ∙ joined_after (so_far ++ e ∷ []) (drop (suc i) ends) in
     ap (position (at_address address)) split ∙ place_kept so_far (rest_of (so_far ++ e ∷ []) (drop (suc i) ends)) e address lacks (eq-eqb e.address address here)
 
 -- a place stays when more endpoints join
@@ -102,7 +102,7 @@ place_stays_by ends rest address place h =
 pub place_stays : (ends more : List End) (address place : ℕ) → position (at_address address) ends ≡ Some place
     → position (at_address address) (fold joined ends more) ≡ Some place
 place_stays ends more address place h =
-    ap (position (at_address address)) (joined_behind ends more) ∙ place_stays_by ends (rest_of ends more) address place h
+    ap (position (at_address address)) (joined_after ends more) ∙ place_stays_by ends (rest_of ends more) address place h
 
 opened_is : (alts : List Alt) (a : Alt) → opens alts a ≡ true → with_interface alts a ≡ alts ++ a ∷ []
 opened_is alts a new = rw new refl
@@ -130,22 +130,22 @@ opened_split : (alts rest : List Alt) (a : Alt) (t : Bool) → cond t (alts ++ a
 opened_split alts rest a true = append_assoc alts (a ∷ []) rest
 opened_split alts rest a false = refl
 
-abbrev alts_behind : List Alt → List Alt → List Alt
-alts_behind alts [] = []
-alts_behind alts (a ∷ more) = opened_rest alts a (opens alts a) (alts_behind (with_interface alts a) more)
+abbrev alts_after : List Alt → List Alt → List Alt
+alts_after alts [] = []
+alts_after alts (a ∷ more) = opened_rest alts a (opens alts a) (alts_after (with_interface alts a) more)
 
-interfaces_behind : (alts more : List Alt) → fold with_interface alts more ≡ alts ++ alts_behind alts more
-interfaces_behind alts [] = sym (append-nil alts)
-interfaces_behind alts (a ∷ more) =
-    interfaces_behind (with_interface alts a) more ∙ opened_split alts (alts_behind (with_interface alts a) more) a (opens alts a)
+interfaces_after : (alts more : List Alt) → fold with_interface alts more ≡ alts ++ alts_after alts more
+interfaces_after alts [] = sym (append-nil alts)
+interfaces_after alts (a ∷ more) =
+    interfaces_after (with_interface alts a) more ∙ opened_split alts (alts_after (with_interface alts a) more) a (opens alts a)
 
 -- a place stays when more interfaces open
 pub place_kept_on : (alts more : List Alt) (address place : ℕ) → position (at_address address) (ends_from alts) ≡ Some place
     → position (at_address address) (ends_from (fold with_interface alts more)) ≡ Some place
 place_kept_on alts more address place h =
-    let rest = alts_behind alts more in
+    let rest = alts_after alts more in
     let joined_on : ends_from (fold with_interface alts more) ≡ fold joined (ends_from alts) (ends_of rest) =
-    ap ends_from (interfaces_behind alts more) ∙ ap (fold joined []) (flat_map-append (λ (b : Alt). b.ends) alts rest) ∙ fold-append joined [] (ends_of alts) (ends_of rest) in
+    ap ends_from (interfaces_after alts more) ∙ ap (fold joined []) (flat_map-append (λ (b : Alt). b.ends) alts rest) ∙ fold-append joined [] (ends_of alts) (ends_of rest) in
     ap (position (at_address address)) joined_on ∙ place_stays (ends_from alts) (ends_of rest) address place h
 
 -- an address that no endpoint has, has no place

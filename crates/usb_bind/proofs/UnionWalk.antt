@@ -23,9 +23,9 @@ longest : (b : ℕ) → max b 1 ≡ suc (b - 1)
 longest b = omega arith
 
 -- a descriptor that is no union is passed over
-pub union_behind : (d rest : List ℕ) → 0 < length d → is_union d ≡ false → rest ≡ drop (max (get_or d 0 0) 1) d → union_in 0 d ≡ union_in 0 rest
-union_behind [] rest h plain is = absurd (omega arith)
-union_behind (b ∷ bytes) rest h plain is = rw plain (skipped (b - 1) bytes ∙ ap (λ n. union_in 0 (drop n (b ∷ bytes))) (sym (longest b)) ∙ ap (union_in 0) (sym is))
+pub union_after : (d rest : List ℕ) → 0 < length d → is_union d ≡ false → rest ≡ drop (max (get_or d 0 0) 1) d → union_in 0 d ≡ union_in 0 rest
+union_after [] rest h plain is = absurd (omega arith)
+union_after (b ∷ bytes) rest h plain is = rw plain (skipped (b - 1) bytes ∙ ap (λ n. union_in 0 (drop n (b ∷ bytes))) (sym (longest b)) ∙ ap (union_in 0) (sym is))
 
 pub union_here : (d : List ℕ) → 0 < length d → is_union d ≡ true → union_in 0 d ≡ Some (get_or d 4 0)
 union_here [] h here = absurd (omega arith)

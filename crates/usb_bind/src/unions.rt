@@ -35,7 +35,7 @@ fn behind(bytes: &[u8]) -> &[u8]
 }
 
 // What the first union of these descriptors names.
-#[tactic(auto, using(crate::proofs::UnionWalk::union_behind, crate::proofs::UnionWalk::union_here))]
+#[tactic(auto, using(crate::proofs::UnionWalk::union_after, crate::proofs::UnionWalk::union_here))]
 fn union_in(extras: &[u8]) -> Option<u8>
     ensures { result ≡ union_in 0 extras.now }
 {

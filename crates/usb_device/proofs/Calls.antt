@@ -7,7 +7,7 @@ use Rattle.usb_xfer.specs.Replies.{Question, acked_by}
 use Rattle.usb_xfer.specs.declared.script.DeviceScript.{DeviceScript}
 use Rattle.usb_device.specs.declared.state.DeviceState.{DeviceState}
 use Rattle.usb_device.specs.Rules.{first_state, is_halted}
-use Rattle.usb_device.specs.Device.{Call, questions_at, at_00, state_from, state_after, unhalted, used_at, reply_to, acked_behind, acked_at}
+use Rattle.usb_device.specs.Device.{Call, questions_at, at_00, state_from, state_after, unhalted, used_at, reply_to, acked_after, acked_at}
 
 -- what one call asks at an address
 one_at : (a : ℕ) (calls : List Call) (c : Call) → questions_at a (calls ++ c ∷ []) ≡ questions_at a calls ++ map (λ (d : Call). d.question) (cond (eqb c.address a) (c ∷ []) [])
@@ -82,12 +82,12 @@ module _ (script : DeviceScript) where
       used-snoc a calls c ∙ ((λ i. used_at script calls a + cond (eq-eqb c.address a e i && not (is_halted (state_after script calls) a)) 1 0)
       ∙ ap (λ b. used_at script calls a + cond (not b) 1 0) going)
 
-  acked-append : (a : ℕ) (before xs ys : List Call) → acked_behind script a before (xs ++ ys) ≡ acked_behind script a before xs ++ acked_behind script a (before ++ xs) ys
-  acked-append a before [] ys = sym (ap (λ l. acked_behind script a l ys) (append-nil before))
+  acked-append : (a : ℕ) (before xs ys : List Call) → acked_after script a before (xs ++ ys) ≡ acked_after script a before xs ++ acked_after script a (before ++ xs) ys
+  acked-append a before [] ys = sym (ap (λ l. acked_after script a l ys) (append-nil before))
   acked-append a before (c ∷ xs) ys =
       let one : List ℕ = cond (eqb c.address a) (acked_by c.question (reply_to script before c)) [] in
-      let more = acked-append a (before ++ c ∷ []) xs ys ∙ ap (λ l. acked_behind script a (before ++ c ∷ []) xs ++ acked_behind script a l ys) (append_assoc before (c ∷ []) xs) in
-      ap (λ l. one ++ l) more ∙ sym (append_assoc one (acked_behind script a (before ++ c ∷ []) xs) (acked_behind script a (before ++ c ∷ xs) ys))
+      let more = acked-append a (before ++ c ∷ []) xs ys ∙ ap (λ l. acked_after script a (before ++ c ∷ []) xs ++ acked_after script a l ys) (append_assoc before (c ∷ []) xs) in
+      ap (λ l. one ++ l) more ∙ sym (append_assoc one (acked_after script a (before ++ c ∷ []) xs) (acked_after script a (before ++ c ∷ xs) ys))
 
   pub acked-snoc_here : (a : ℕ) (calls : List Call) (c : Call) → c.address ≡ a → acked_at script (calls ++ c ∷ []) a ≡ acked_at script calls a ++ acked_by c.question (reply_to script calls c)
   acked-snoc_here a calls c e =

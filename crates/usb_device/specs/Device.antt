@@ -83,14 +83,14 @@ reply_to script calls c =
     else end_reply script calls c.address
 
 -- the bytes that an address acknowledged of these calls, which others came before
-abbrev pub acked_behind : DeviceScript → ℕ → List Call → List Call → List ℕ
-acked_behind script address before [] = []
-acked_behind script address before (c ∷ calls) =
-    (if c.address == address then acked_by c.question (reply_to script before c) else []) ++ acked_behind script address (before ++ c ∷ []) calls
+abbrev pub acked_after : DeviceScript → ℕ → List Call → List Call → List ℕ
+acked_after script address before [] = []
+acked_after script address before (c ∷ calls) =
+    (if c.address == address then acked_by c.question (reply_to script before c) else []) ++ acked_after script address (before ++ c ∷ []) calls
 
 -- the bytes of the packets that an address acknowledged, joined
 abbrev pub acked_at : DeviceScript → List Call → ℕ → List ℕ
-acked_at script calls address = acked_behind script address [] calls
+acked_at script calls address = acked_after script address [] calls
 
 -- how many items of an address were used
 abbrev pub items_used : DeviceScript → List Call → ℕ → ℕ

@@ -8,11 +8,11 @@ use Rattle.usb_scene.specs.declared.scene.Call.{Call}
 use Rattle.usb_generate.specs.Draws.{next, behind, draw}
 use Rattle.usb_generate.specs.Generator.{item_of, item_draws, item_place, item_at, items, device_of, device_beginning, device_at, devices, urb_at, urbs, call_of, call_draws, call_place, call_at, calls}
 
-behind_behind : (x k m : ℕ) → behind m (behind k x) ≡ behind (k + m) x
-behind_behind x k zero = let e : k ≡ k + zero = omega arith in ap (λ n. behind n x) e
-behind_behind x k (suc m) =
+behind_after : (x k m : ℕ) → behind m (behind k x) ≡ behind (k + m) x
+behind_after x k zero = let e : k ≡ k + zero = omega arith in ap (λ n. behind n x) e
+behind_after x k (suc m) =
     let e : suc (k + m) ≡ k + suc m = omega arith in
-    ap next (behind_behind x k m) ∙ ap (λ n. behind n x) e
+    ap next (behind_after x k m) ∙ ap (λ n. behind n x) e
 
 -- the second draw from draw k on
 draw_second : (x k n : ℕ) → draw (behind k x) 1 n ≡ draw x (k + 1) n
@@ -21,7 +21,7 @@ draw_second x k n = let e : suc k ≡ k + 1 = omega arith in ap (λ m. draw x m 
 -- after some draws from draw k on
 behind_more : (x k m y z : ℕ) (taken : ℕ → ℕ) → y ≡ behind k x → z ≡ behind (taken (draw y 0 8)) y → k + taken (draw x k 8) ≡ m → z ≡ behind m x
 behind_more x k m y z taken at after place =
-    after ∙ ap (λ w. behind (taken (draw w 0 8)) w) at ∙ behind_behind x k (taken (draw x k 8)) ∙ ap (λ n. behind n x) place
+    after ∙ ap (λ w. behind (taken (draw w 0 8)) w) at ∙ behind_after x k (taken (draw x k 8)) ∙ ap (λ n. behind n x) place
 
 -- answers
 pub items_none : (x : ℕ) → [] ≡ items x 0

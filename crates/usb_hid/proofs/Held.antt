@@ -9,7 +9,7 @@ use Rattle.usb_hid.specs.declared.event.Event.{Event}
 use Rattle.usb_hid.specs.declared.event.Event.TheVariants.{Down, Up}
 use Rattle.usb_hid.specs.Reports.{has, modifiers_of, codes_of, is_roll_over, modifier_bits, modifier_key}
 use Rattle.usb_machine.specs.Completion.{Completion, moved_bytes}
-use Rattle.usb_hid.specs.Keys.{report_in, reports, last_of, modifiers_after, codes_after, report_events, light_events, events_of, events_behind, key_events}
+use Rattle.usb_hid.specs.Keys.{report_in, reports, last_of, modifiers_after, codes_after, report_events, light_events, events_of, events_after, key_events}
 use Rattle.usb_hid.specs.Down.{said_of, is_down, keys_after, has_modifier_code}
 use Rattle.usb_hid.proofs.Standing.{modifiers_after-append, codes_after-append}
 use Rattle.usb_hid.proofs.Traces.{trace, toggle}
@@ -67,7 +67,7 @@ EachAlone key [] = Unit {0}
 EachAlone key (c ∷ rest) = ReportIsAlone key (report_with c) × EachAlone key rest
 
 walk : (key : ℕ) (before rest : List Completion) → IsAlone key (codes_after before) → EachAlone key rest
-    → Walks (stands key before) (trace key (events_behind before rest)) (stands key (before ++ rest))
+    → Walks (stands key before) (trace key (events_after before rest)) (stands key (before ++ rest))
 walk key before [] o w = ap (stands key) (sym (append-nil before))
 walk key before (c ∷ rest) o w =
     let here : Walks (stands key before) (trace key (events_of before c)) (stands key (before ++ c ∷ []))
@@ -75,8 +75,8 @@ walk key before (c ∷ rest) o w =
     let there = walk key (before ++ c ∷ []) rest (alone_after key before c o w.0) w.1 in
     let both = walks_on _ _ _ _ _ here there in
     let P : List Bool → Type 0 = λ xs. Walks (stands key before) xs (stands key ((before ++ c ∷ []) ++ rest)) in
-    let Q : List Completion → Type 0 = λ done. Walks (stands key before) (trace key (events_of before c ++ events_behind (before ++ c ∷ []) rest)) (stands key done) in
-    subst Q (append_assoc before (c ∷ []) rest) (subst P (sym (filter_map-append (said_of key) (events_of before c) (events_behind (before ++ c ∷ []) rest))) both)
+    let Q : List Completion → Type 0 = λ done. Walks (stands key before) (trace key (events_of before c ++ events_after (before ++ c ∷ []) rest)) (stands key done) in
+    subst Q (append_assoc before (c ∷ []) rest) (subst P (sym (filter_map-append (said_of key) (events_of before c) (events_after (before ++ c ∷ []) rest))) both)
 
 -- where no report has a modifier's code, each stands alone
 neither : (a b : Bool) → (a || b) ≡ false → (a ≡ false) × (b ≡ false)
@@ -141,7 +141,7 @@ nothing_stands key = refl
 
 whole_walk : (key : ℕ) (done : List Completion) → has_modifier_code key done ≡ false → Walks false (trace key (key_events done)) (stands key done)
 unfolding key_events
-whole_walk key done e = let P : Bool → Type 0 = λ b. Walks b (trace key (events_behind [] done)) (stands key done) in subst P (nothing_stands key) (walk key [] done (alone_at_first key) (each_alone key done e))
+whole_walk key done e = let P : Bool → Type 0 = λ b. Walks b (trace key (events_after [] done)) (stands key done) in subst P (nothing_stands key) (walk key [] done (alone_at_first key) (each_alone key done e))
 
 pub down_is_held : (done : List Completion) (key : ℕ) → has_modifier_code key done ≡ false → is_down key (key_events done) ≡ has (keys_after done) key
 down_is_held done key e = walk_ends false (trace key (key_events done)) (stands key done) (whole_walk key done e)

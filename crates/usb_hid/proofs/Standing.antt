@@ -7,7 +7,7 @@ use Rattle.usb_hid.specs.declared.event.Event.{Event}
 use Rattle.usb_hid.specs.Reports.{modifiers_of, codes_of, is_roll_over}
 use Rattle.usb_hid.specs.Changes.{Grown}
 use Rattle.usb_machine.specs.Completion.{Completion, moved_bytes}
-use Rattle.usb_hid.specs.Keys.{report_in, reports, last_of, modifiers_after, codes_after, report_events, light_events, events_of, events_behind, key_events}
+use Rattle.usb_hid.specs.Keys.{report_in, reports, last_of, modifiers_after, codes_after, report_events, light_events, events_of, events_after, key_events}
 use Rattle.usb_hid.specs.Keyboard.{KeyboardState, Notes, IsAfter}
 
 pub last_of-append : {X : Type 0} (x : X) (xs ys : List X) → last_of x (xs ++ ys) ≡ last_of (last_of x xs) ys
@@ -39,16 +39,16 @@ codes_after-append before after =
     counts : List ℕ → Bool
     counts codes = not (is_roll_over codes)
 
-events_behind-append : (before done after : List Completion) → events_behind before (done ++ after) ≡ events_behind before done ++ events_behind (before ++ done) after
-events_behind-append before [] after = ap (λ (b : List Completion). events_behind b after) (sym (append-nil before))
-events_behind-append before (c ∷ done) after =
-    ap (λ (es : List Event). events_of before c ++ es) (events_behind-append (before ++ c ∷ []) done after)
-    ∙ sym (append_assoc (events_of before c) (events_behind (before ++ c ∷ []) done) (events_behind ((before ++ c ∷ []) ++ done) after))
-    ∙ ap (λ (b : List Completion). (events_of before c ++ events_behind (before ++ c ∷ []) done) ++ events_behind b after) (append_assoc before (c ∷ []) done)
+events_after-append : (before done after : List Completion) → events_after before (done ++ after) ≡ events_after before done ++ events_after (before ++ done) after
+events_after-append before [] after = ap (λ (b : List Completion). events_after b after) (sym (append-nil before))
+events_after-append before (c ∷ done) after =
+    ap (λ (es : List Event). events_of before c ++ es) (events_after-append (before ++ c ∷ []) done after)
+    ∙ sym (append_assoc (events_of before c) (events_after (before ++ c ∷ []) done) (events_after ((before ++ c ∷ []) ++ done) after))
+    ∙ ap (λ (b : List Completion). (events_of before c ++ events_after (before ++ c ∷ []) done) ++ events_after b after) (append_assoc before (c ∷ []) done)
 
-pub key_events-append : (before after : List Completion) → key_events (before ++ after) ≡ key_events before ++ events_behind before after
+pub key_events-append : (before after : List Completion) → key_events (before ++ after) ≡ key_events before ++ events_after before after
 unfolding key_events
-key_events-append before after = events_behind-append [] before after
+key_events-append before after = events_after-append [] before after
 
 pub key_events-snoc : (done : List Completion) (c : Completion) → key_events (done ++ c ∷ []) ≡ key_events done ++ events_of done c
 key_events-snoc done c =

@@ -47,10 +47,10 @@ abbrev pub events_of : List Completion → Completion → List Event
 events_of before c =
     report_events (modifiers_after before) (codes_after before) (report_in c.role c.status (moved_bytes c.transfer)) ++ light_events c.role c.status (moved_bytes c.transfer)
 
-abbrev pub events_behind : List Completion → List Completion → List Event
-events_behind before [] = []
-events_behind before (c ∷ rest) = events_of before c ++ events_behind (before ++ c ∷ []) rest
+abbrev pub events_after : List Completion → List Completion → List Event
+events_after before [] = []
+events_after before (c ∷ rest) = events_of before c ++ events_after (before ++ c ∷ []) rest
 
 -- the events of a keyboard
 unfoldable pub key_events : List Completion → List Event
-key_events done = events_behind [] done
+key_events done = events_after [] done

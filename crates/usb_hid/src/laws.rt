@@ -4,12 +4,12 @@ ghost use Rattle.usb_machine.specs.Completion.{Completion};
 ghost use Rattle.usb_hid.specs.declared.event.Event.{Event};
 ghost use Rattle.usb_hid.specs.declared.event.Event.TheVariants.{Down, Up};
 ghost use Rattle.usb_hid.specs.Reports.{has};
-ghost use Rattle.usb_hid.specs.Keys.{key_events, events_behind};
+ghost use Rattle.usb_hid.specs.Keys.{key_events, events_after};
 ghost use Rattle.usb_hid.specs.Down.{is_down, keys_after, has_modifier_code};
 
 /// What was reported stays reported: completions that follow add events after those so far.
 pub fn events_only_grow()
-    ensures { (before after : List Completion) → key_events (before ++ after) ≡ key_events before ++ events_behind before after }
+    ensures { (before after : List Completion) → key_events (before ++ after) ≡ key_events before ++ events_after before after }
 {}
 
 /// Replaying the events leaves down exactly the keys of the reports: the modifiers of the last

@@ -17,13 +17,13 @@ use Rattle.usb_xfer.specs.declared.packet.Step.TheVariants.{More, Waiting, Ended
 use Rattle.usb_xfer.specs.Moved.{moved_state}
 use Rattle.usb_scene.specs.declared.scene.Scene.{Scene}
 use Rattle.usb_scene.specs.declared.scene.Call.{Call}
-use Rattle.usb_line.specs.declared.made.HostCall.{HostCall}
-use Rattle.usb_line.specs.declared.made.HostCall.TheVariants as host_call
-use Rattle.usb_line.specs.declared.made.CallAnswer.{CallAnswer}
-use Rattle.usb_line.specs.declared.made.CallAnswer.TheVariants as told
+use Rattle.usb_trace.specs.declared.rows.HostCall.{HostCall}
+use Rattle.usb_trace.specs.declared.rows.HostCall.TheVariants as host_call
+use Rattle.usb_trace.specs.declared.rows.CallAnswer.{CallAnswer}
+use Rattle.usb_trace.specs.declared.rows.CallAnswer.TheVariants as told
 use Rattle.usb_prepare.specs.Ends.{ends_of, shape_at}
-use Rattle.usb_line.specs.Prepared.{machine_of, pass_of, main_pass, host_call_of}
-use Rattle.usb_line.specs.Run.{CallRecord, urbs_of, call_entries, seen_quiet}
+use Rattle.usb_trace.specs.Plan.{machine_of, pass_of, main_pass, host_call_of}
+use Rattle.usb_trace.specs.Run.{CallRecord, urbs_of, call_entries, seen_quiet}
 use Rattle.std.specs.List.{flat_map}
 use Rattle.usb_line.specs.Line.{Progress, adds, with_takes, had_after, GoesTo, IsServed, IsMarked, round_of, given_back, replies_had, waits, Passes, over, stops, Gives, unlinked, ended, IsIdle, GivesBack, none, one, woken, is_quiet, StaysLoud, begins, goes_on, WaitsFor, already, turns, ClaimsEach, killing, with_call_record, call_record, shut_marks, shutting, answer_now, Makes, at_once, served, killed, poisoned, shut_down, IsLine, start, call, Closes, IsLineRun}
 use Rattle.usb_line.proofs.Scripted.{placed}

@@ -14,12 +14,12 @@ use Rattle.usb_scene.specs.declared.scene.Scene.{Scene}
 use Rattle.usb_scene.specs.WellFormed.{IsWellFormed}
 use Rattle.usb_prepare.specs.Ends.{shape_at}
 use Rattle.usb_prepare.specs.Layout.{urb_count, home}
-use Rattle.usb_line.specs.declared.owner.Owner.{Owner}
-use Rattle.usb_line.specs.Prepared.{owner_of}
+use Rattle.usb_trace.specs.declared.owner.Owner.{Owner}
+use Rattle.usb_trace.specs.Plan.{owner_of}
 use Rattle.usb_line.specs.Between.{IsBare}
 use Rattle.usb_line.specs.Shows.{IsApt}
 use Rattle.usb_line.proofs.Homes.{own_near, home_raw, home_asked}
-use Rattle.usb_line.proofs.Owners.{own_unowned, owner_near}
+use Rattle.usb_trace.proofs.Owners.{own_unowned, owner_near}
 
 -- an URB of the scene's own may have any
 pub own_apt : (s : Scene) → IsWellFormed s → (u : ℕ) → u < length s.urbs → (t : Transfer) → IsApt s u t

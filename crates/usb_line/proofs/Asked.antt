@@ -5,8 +5,8 @@ use Rattle.usb_machine.specs.declared.transfer.Transfer.{Transfer}
 use Rattle.usb_machine.specs.History.{pending_of, sent_of}
 use Rattle.usb_xfer.specs.Replies.{Reply}
 use Rattle.usb_scene.specs.declared.scene.Scene.{Scene}
-use Rattle.usb_line.specs.Prepared.{machine_of}
-use Rattle.usb_line.specs.Run.{asked_of}
+use Rattle.usb_trace.specs.Plan.{machine_of}
+use Rattle.usb_trace.specs.Run.{asked_of}
 use Rattle.usb_line.specs.Line.{Progress, asks, asked_so_far}
 use Rattle.usb_line.specs.Shows.{first_sent, asked_by, asked_now}
 

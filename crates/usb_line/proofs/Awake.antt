@@ -8,7 +8,7 @@ use Rattle.usb_line.specs.declared.run.EndRow.{EndRow}
 use Rattle.usb_line.specs.declared.run.LineRun.{LineRun}
 use Rattle.usb_machine.specs.Plain.{Stands}
 use Rattle.usb_line.specs.declared.run.UrbRow.{UrbRow}
-use Rattle.usb_line.specs.Prepared.{machine_of}
+use Rattle.usb_trace.specs.Plan.{machine_of}
 use Rattle.usb_line.specs.Line.{Progress, woken}
 use Rattle.usb_line.specs.Shows.{HoldsTransfer, ShowsEnd, ShowsDevices, ShowsCores, Shows}
 use Rattle.usb_line.specs.Awake.{awake}

@@ -24,20 +24,21 @@ use Rattle.usb_xfer.specs.Input.{with_bytes}
 use Rattle.usb_xfer.specs.Moved.{moved, moved_by, IsOpen}
 use Rattle.usb_class.specs.Handler.{window_by}
 use Rattle.usb_scene.specs.declared.scene.Scene.{Scene}
-use Rattle.usb_line.specs.declared.made.Outcome.{Outcome}
-use Rattle.usb_line.specs.declared.made.Outcome.TheVariants as outcome
+use Rattle.usb_trace.specs.declared.rows.Outcome.{Outcome}
+use Rattle.usb_trace.specs.declared.rows.Outcome.TheVariants as outcome
 use Rattle.usb_line.specs.declared.run.UrbRow.{UrbRow}
 use Rattle.usb_line.specs.declared.run.EndRow.{EndRow}
-use Rattle.usb_line.specs.declared.run.Received.{Received}
+use Rattle.usb_trace.specs.declared.received.Received.{Received}
 use Rattle.usb_line.specs.declared.run.LineRun.{LineRun}
 use Rattle.usb_prepare.specs.Ends.{shape_at}
 use Rattle.usb_prepare.specs.Layout.{home}
-use Rattle.usb_line.specs.Prepared.{machine_of, owner_of, again_of, DriverQuestion, question_at}
-use Rattle.usb_line.specs.Run.{Giveback, moved_in, resent, action_by, is_accepted, times_back, rounds_at, is_first, asked_in, asked_of}
+use Rattle.usb_trace.specs.Plan.{machine_of, owner_of, again_of, DriverQuestion, question_at}
+use Rattle.usb_trace.specs.Run.{Giveback, moved_in, resent, action_by, is_accepted, times_back, rounds_at, is_first, asked_in, asked_of}
 use Rattle.usb_line.specs.Line.{Progress, replies_had, given_back}
-use Rattle.usb_line.specs.GivebackRow.{giveback_row, acked_at, sent_bytes, IsReceived}
+use Rattle.usb_trace.specs.GivebackRow.{giveback_row, acked_at, sent_bytes, IsReceived}
 use Rattle.usb_line.specs.Shows.{IsApt, HoldsTransfer, ShowsUrb, ShowsEnd, ShowsCores, Shows, ShowsDevices, asked_now}
-use Rattle.usb_line.specs.Back.{Adds, is_again, left_by, row_back, CanPoseAny, CanGive}
+use Rattle.usb_trace.specs.GivebackRow.{Adds}
+use Rattle.usb_line.specs.Back.{is_again, left_by, row_back, CanPoseAny, CanGive}
 use Rattle.usb_line.proofs.Resending.{resent_unmoved}
 use Rattle.usb_line.proofs.Givebacks.{handled_state, resubmits, IsApart, apart_any, posed, IsPut, accepted_idle, giveback_state, giveback_other, giveback_pending, giveback_sent, giveback_posed, giveback_posed_sent}
 use Rattle.usb_line.proofs.Calm.{calm_giveback, linked_giveback}

@@ -14,7 +14,7 @@ use Rattle.usb_scene.specs.declared.operation.InterfaceOp.{InterfaceOp}
 use Rattle.usb_prepare.specs.Prepared.{bindings_of}
 use Rattle.usb_prepare.specs.Layout.{urb_count}
 use Rattle.usb_prepare.proofs.Facts.{bound_near}
-use Rattle.usb_line.specs.Prepared.{called_of, called_urb}
+use Rattle.usb_trace.specs.Plan.{called_of, called_urb}
 
 -- what is found stands at a place
 found_at : {X : Type 0} (p : X → Bool) (xs : List X) (x : X) → find p xs ≡ Some x → (k : ℕ) × (slice_get xs k ≡ Some x)

@@ -11,17 +11,17 @@ use Rattle.usb_scene.specs.declared.scene.Scene.{Scene}
 use Rattle.usb_scene.specs.declared.scene.Call.{Call}
 use Rattle.usb_prepare.specs.Layout.{urb_count}
 use Rattle.usb_line.specs.declared.run.LineRun.{LineRun}
-use Rattle.usb_line.specs.declared.made.HostCall.{HostCall}
-use Rattle.usb_line.specs.declared.made.HostCall.TheVariants as host_call
-use Rattle.usb_line.specs.declared.made.CallAnswer.{CallAnswer}
-use Rattle.usb_line.specs.declared.made.CallAnswer.TheVariants as told
-use Rattle.usb_line.specs.Prepared.{machine_of, pass_of, host_call_of}
+use Rattle.usb_trace.specs.declared.rows.HostCall.{HostCall}
+use Rattle.usb_trace.specs.declared.rows.HostCall.TheVariants as host_call
+use Rattle.usb_trace.specs.declared.rows.CallAnswer.{CallAnswer}
+use Rattle.usb_trace.specs.declared.rows.CallAnswer.TheVariants as told
+use Rattle.usb_trace.specs.Plan.{machine_of, pass_of, host_call_of}
 use Rattle.usb_prepare.specs.Below.{below}
-use Rattle.usb_line.specs.Run.{CallRecord, host_call_entries, down_after, urbs_of}
+use Rattle.usb_trace.specs.Run.{CallRecord, host_call_entries, down_after, urbs_of}
 use Rattle.usb_line.specs.Line.{Progress, adds, call_record, answer_now, Makes, at_once, served, killed, poisoned, killing, WaitsFor, shutting, shut_marks, ClaimsEach, shut_down}
 use Rattle.usb_line.specs.Shows.{Shows, Served}
 use Rattle.usb_line.specs.Calls.{MayKill, Stopped, Killed, MayMake, Made, MayBeMade, Claimed}
-use Rattle.usb_line.proofs.Stills.{AreStill, unflags_still}
+use Rattle.usb_trace.proofs.Stills.{AreStill, unflags_still}
 use Rattle.usb_line.proofs.Held.{rejects_at}
 use Rattle.usb_line.proofs.HostCalls.{withdraws, is_hubs, IsThere, host_call_there}
 use Rattle.usb_line.proofs.Passes.{not_server, is_pass}

@@ -19,17 +19,17 @@ use Rattle.usb_scene.specs.declared.scene.SceneThread.{SceneThread}
 use Rattle.usb_scene.specs.declared.scene.Call.{Call}
 use Rattle.usb_scene.specs.WellFormed.{IsCall, IsThread, IsWellFormed, is_hub_call}
 use Rattle.usb_prepare.specs.Layout.{urb_count}
-use Rattle.usb_line.specs.declared.made.HostCall.{HostCall}
-use Rattle.usb_line.specs.declared.made.HostCall.TheVariants as host_call
-use Rattle.usb_line.specs.declared.made.CallAnswer.{CallAnswer}
-use Rattle.usb_line.specs.declared.made.CallAnswer.TheVariants as told
-use Rattle.usb_line.specs.Prepared.{pass_of, main_pass, host_call_of, calls_of, is_hub}
-use Rattle.usb_line.specs.Run.{CallRecord, urbs_of, opening, call_entries, host_call_entries, IsMade, IsAnswered, down_after, IsFound, AreFound, done_by}
+use Rattle.usb_trace.specs.declared.rows.HostCall.{HostCall}
+use Rattle.usb_trace.specs.declared.rows.HostCall.TheVariants as host_call
+use Rattle.usb_trace.specs.declared.rows.CallAnswer.{CallAnswer}
+use Rattle.usb_trace.specs.declared.rows.CallAnswer.TheVariants as told
+use Rattle.usb_trace.specs.Plan.{pass_of, main_pass, host_call_of, calls_of, is_hub}
+use Rattle.usb_trace.specs.Run.{CallRecord, urbs_of, opening, call_entries, host_call_entries, IsMade, IsAnswered, down_after, IsFound, AreFound, done_by}
 use Rattle.usb_line.specs.Line.{Progress, AreDowns, begun, adds, call_record, with_call_record, woken, killing, shutting, ClaimsEach, none, one, Makes, at_once, served, killed, poisoned, shut_down, IsLine, start, call}
 use Rattle.usb_line.proofs.Held.{rejects_at, down_at}
 use Rattle.usb_line.proofs.HostCalls.{raises, withdraws, is_hubs, named, host_call_hubs, sum_raised, sum_withdrawn, withdraws_named, withdraws_own, none_or_named}
 use Rattle.usb_line.proofs.Effects.{rejects_effect, down_effect}
-use Rattle.usb_line.proofs.Entries.{AreOf, part_own, part_other}
+use Rattle.usb_trace.proofs.Entries.{AreOf, part_own, part_other}
 use Rattle.usb_line.proofs.Serving.{Serves}
 use Rattle.usb_line.proofs.Turns.{gives_back_serve, gives_back_turned, idle_serves, idle_turned}
 use Rattle.usb_line.proofs.Waits.{woken_serves, woken_turned, wait_turned}

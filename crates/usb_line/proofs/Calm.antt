@@ -24,18 +24,19 @@ use Rattle.usb_machine.proofs.Steps.{state_of-snoc}
 use Rattle.usb_machine.proofs.Totals.{total_same, total_none}
 use Rattle.usb_machine.proofs.Places.{placed}
 use Rattle.usb_scene.specs.declared.scene.Scene.{Scene}
-use Rattle.usb_line.specs.declared.made.Outcome.{Outcome}
-use Rattle.usb_line.specs.declared.made.Outcome.TheVariants as outcome
-use Rattle.usb_line.specs.Prepared.{machine_of, DriverQuestion, question_at}
+use Rattle.usb_trace.specs.declared.rows.Outcome.{Outcome}
+use Rattle.usb_trace.specs.declared.rows.Outcome.TheVariants as outcome
+use Rattle.usb_trace.specs.Plan.{machine_of, DriverQuestion, question_at}
 use Rattle.usb_line.specs.Back.{CanPoseAny}
-use Rattle.usb_line.specs.Run.{Giveback, moved_in, resent, rest_entry, asked_entries, handled_by, given_entries, giveback_entries}
+use Rattle.usb_trace.specs.Run.{Giveback, moved_in, resent, rest_entry, asked_entries, handled_by, given_entries, giveback_entries}
 use Rattle.usb_line.specs.Line.{takes, takes_below}
 pub use Rattle.usb_line.specs.Between.{is_finished, IsAtRest, IsCalm, AllLinked}
-use Rattle.usb_line.proofs.Entries.{AreOf, grows, stays, other_state}
+use Rattle.usb_trace.proofs.Entries.{AreOf, grows, stays, other_state}
 use Rattle.usb_line.proofs.Takes.{below_state, below_pass}
-use Rattle.usb_line.proofs.Givebacks.{handled_state, IsApart, apart_any, posed_by, given_about, asked_each, handled, whole, whole_asked, resting, giveback_state, giveback_other, giveback_pass}
+use Rattle.usb_trace.proofs.AskedEach.{asked_each}
+use Rattle.usb_line.proofs.Givebacks.{handled_state, IsApart, apart_any, posed_by, given_about, handled, whole, whole_asked, resting, giveback_state, giveback_other, giveback_pass}
 use Rattle.usb_line.proofs.Submits.{submit_pass, submit_state, submit_other, submit_owes_none}
-use Rattle.usb_line.proofs.Stills.{IsStill, AreStill, stills_owe}
+use Rattle.usb_trace.proofs.Stills.{IsStill, AreStill, stills_owe}
 
 pub calm_empty : IsCalm []
 calm_empty u = record { handlers = refl; mark = refl }

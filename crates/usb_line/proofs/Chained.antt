@@ -24,10 +24,10 @@ use Rattle.usb_device.proofs.Counting.{raw_counts, unhalted_counts}
 use Rattle.usb_scene.specs.declared.scene.Scene.{Scene}
 use Rattle.usb_scene.specs.declared.scene.SceneDevice.{SceneDevice}
 use Rattle.usb_prepare.specs.Ends.{shape_at}
-use Rattle.usb_line.specs.Script.{replies_from}
-use Rattle.usb_line.specs.Due.{answers_from, next_due}
+use Rattle.usb_trace.specs.Script.{replies_from}
+use Rattle.usb_trace.specs.Due.{answers_from, next_due}
 use Rattle.usb_line.specs.Line.{Progress, asks, asked_so_far, GoesTo}
-use Rattle.usb_line.proofs.Dues.{take-due}
+use Rattle.usb_trace.proofs.Dues.{take-due}
 
 -- these questions, asked at one address
 abbrev pub calls_at : ℕ → List Question → List Call

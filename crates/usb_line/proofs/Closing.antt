@@ -25,15 +25,15 @@ use Rattle.usb_scene.specs.WellFormed.{IsWellFormed}
 use Rattle.usb_prepare.specs.Below.{below}
 use Rattle.usb_prepare.specs.Ends.{ends_of}
 use Rattle.usb_prepare.specs.Layout.{home}
-use Rattle.usb_line.specs.Prepared.{machine_of, main_pass, DriverQuestion}
-use Rattle.usb_line.specs.Run.{Giveback, kills_of, seen_quiet}
+use Rattle.usb_trace.specs.Plan.{machine_of, main_pass, DriverQuestion}
+use Rattle.usb_trace.specs.Run.{Giveback, kills_of, seen_quiet}
 use Rattle.usb_line.specs.Line.{Progress, adds, with_takes, round_of, given_back, replies_had, had_after, killing, Gives, unlinked, ended, woken, StaysLoud, begins, goes_on, WaitsFor, already, turns, Closes, none, one}
-use Rattle.usb_line.proofs.Entries.{AreOf, AllFollow}
+use Rattle.usb_trace.proofs.Entries.{AreOf, AllFollow}
 use Rattle.usb_line.proofs.MayFollow.{once, reject_follows, quiet_follows}
 use Rattle.usb_line.proofs.Takes.{below_state}
 use Rattle.usb_line.proofs.Givebacks.{IsApart, posed, giveback_other}
 use Rattle.usb_line.proofs.Before.{posed_before}
-use Rattle.usb_line.proofs.Stills.{IsStill, AreStill}
+use Rattle.usb_trace.proofs.Stills.{IsStill, AreStill}
 use Rattle.usb_line.proofs.Calm.{IsCalm, calm_entry}
 use Rattle.usb_line.proofs.Marked.{times-append, first_at_home, marked_at_home}
 use Rattle.usb_line.proofs.Serving.{stills_bare, Serves, takes_serve}

@@ -11,16 +11,16 @@ use Rattle.usb_prepare.specs.Ends.{ends_of}
 use Rattle.usb_prepare.specs.Layout.{urb_count}
 use Rattle.usb_prepare.specs.Prepared.{bindings_of}
 use Rattle.usb_prepare.proofs.Facts.{bound_near, home_near}
-use Rattle.usb_line.specs.declared.owner.Owner.{Owner}
+use Rattle.usb_trace.specs.declared.owner.Owner.{Owner}
 use Rattle.usb_line.specs.declared.run.UrbRow.{UrbRow}
 use Rattle.usb_line.specs.declared.run.LineRun.{LineRun}
-use Rattle.usb_line.specs.Prepared.{owner_of, origin_of}
-use Rattle.usb_line.specs.Run.{Giveback, done_at}
+use Rattle.usb_trace.specs.Plan.{owner_of, origin_of}
+use Rattle.usb_trace.specs.Run.{Giveback, done_at}
 use Rattle.usb_line.specs.Line.{Progress}
 use Rattle.usb_line.specs.Shows.{ShowsCores, Shows}
 use Rattle.usb_line.specs.Back.{CanNote, CanAsk}
 use Rattle.usb_line.proofs.Homes.{some_at}
-use Rattle.usb_line.proofs.Owners.{owner_bound, owner_ctl}
+use Rattle.usb_trace.proofs.Owners.{owner_bound, owner_ctl}
 
 -- the owner of an URB has a core, to which the URB may come back
 owner_core : (s : Scene) (rounds : List Giveback) (cores : List Core) → ShowsCores s rounds cores → (u : ℕ) (o : Option Owner) → owner_of s u ≡ o → CanNote cores o

@@ -23,9 +23,9 @@ use Rattle.usb_scene.specs.declared.scene.Scene.{Scene}
 use Rattle.usb_scene.specs.WellFormed.{is_raw, IsWellFormed}
 use Rattle.usb_prepare.specs.Ends.{ends_of, shape_at, raw_in, is_raw_at}
 use Rattle.usb_prepare.proofs.Facts.{ends_apart}
-use Rattle.usb_line.specs.Script.{replies_from}
-use Rattle.usb_line.specs.Prepared.{script_in, script_of}
-use Rattle.usb_line.specs.Due.{is_ruled, heard_before, answers_from, next_due}
+use Rattle.usb_trace.specs.Script.{replies_from}
+use Rattle.usb_trace.specs.Plan.{script_in, script_of}
+use Rattle.usb_trace.specs.Due.{is_ruled, heard_before, answers_from, next_due}
 use Rattle.usb_line.specs.Line.{Progress, asks}
 use Rattle.usb_line.specs.Shows.{asked_now, ShowsDevice, ShowsDevices}
 use Rattle.usb_device.proofs.Lookups.{each_set}

@@ -19,15 +19,15 @@ use Rattle.usb_scene.specs.declared.scene.Scene.{Scene}
 use Rattle.usb_scene.specs.WellFormed.{IsWellFormed}
 use Rattle.usb_scene.specs.declared.scene.Call.{Call}
 use Rattle.usb_prepare.specs.Layout.{urb_count}
-use Rattle.usb_line.specs.declared.made.HostCall.TheVariants as host_call
-use Rattle.usb_line.specs.declared.made.CallAnswer.TheVariants as told
-use Rattle.usb_line.specs.Prepared.{machine_of, pass_of, host_call_of}
+use Rattle.usb_trace.specs.declared.rows.HostCall.TheVariants as host_call
+use Rattle.usb_trace.specs.declared.rows.CallAnswer.TheVariants as told
+use Rattle.usb_trace.specs.Plan.{machine_of, pass_of, host_call_of}
 use Rattle.usb_prepare.specs.Below.{below}
-use Rattle.usb_line.specs.Run.{urbs_of, CallRecord, host_call_entries, IsDownAnswer, IsAnswered}
+use Rattle.usb_trace.specs.Run.{urbs_of, CallRecord, host_call_entries, IsDownAnswer, IsAnswered}
 use Rattle.usb_line.specs.Line.{Progress, adds, call_record, all_flagged, shut_marks, shutting, ClaimsEach, none, one}
-use Rattle.usb_line.proofs.Entries.{AllFollow}
+use Rattle.usb_trace.proofs.Entries.{AllFollow}
 use Rattle.usb_line.proofs.MayFollow.{mark_follows, flag_follows}
-use Rattle.usb_line.proofs.Stills.{flags_still, flags_pass, marks_still, marks_pass}
+use Rattle.usb_trace.proofs.Stills.{flags_still, flags_pass, marks_still, marks_pass}
 use Rattle.usb_line.proofs.Each.{marks_by, each_follow}
 use Rattle.usb_line.proofs.Held.{down_at, no_flag, all_flags, marks_no_flag, claims_no_flag, holds_down}
 use Rattle.usb_line.proofs.HostCalls.{is_hubs}

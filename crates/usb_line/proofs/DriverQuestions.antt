@@ -37,18 +37,18 @@ use Rattle.usb_scene.specs.declared.scene.Scene.{Scene}
 use Rattle.usb_prepare.specs.Ends.{shape_at}
 use Rattle.usb_prepare.specs.Layout.{home}
 use Rattle.usb_prepare.specs.Prepared.{bindings_of}
-use Rattle.usb_line.specs.declared.owner.Owner.{Owner}
-use Rattle.usb_line.specs.declared.made.Outcome.TheVariants as outcome
+use Rattle.usb_trace.specs.declared.owner.Owner.{Owner}
+use Rattle.usb_trace.specs.declared.rows.Outcome.TheVariants as outcome
 use Rattle.usb_line.specs.declared.giveback.PosedQuestion.{PosedQuestion}
 use Rattle.usb_line.specs.declared.run.UrbRow.{UrbRow}
 use Rattle.usb_line.specs.declared.run.EndRow.{EndRow}
 use Rattle.usb_line.specs.declared.run.LineRun.{LineRun}
-use Rattle.usb_line.specs.Prepared.{owner_of, origin_of, DriverQuestion, question_with, owner_question, question_at}
-use Rattle.usb_line.specs.Run.{Giveback, moved_in, action_by, is_accepted, out_after, is_out, question_out, asks_or_rests, done_in, done_at}
+use Rattle.usb_trace.specs.Plan.{owner_of, origin_of, DriverQuestion, question_with, owner_question, question_at}
+use Rattle.usb_trace.specs.Run.{Giveback, moved_in, action_by, is_accepted, out_after, is_out, question_out, asks_or_rests, done_in, done_at}
 use Rattle.usb_line.specs.Line.{submit_answer, outcome_by}
 use Rattle.usb_line.specs.Shows.{ShowsCores}
 use Rattle.usb_line.specs.Back.{Noted, CanAsk, CanPoseQuestion, CanSettle, GaveQuestion, QuestionOf, QuestionWith, QuestionBy, Settled, IsPosedBy, ArePosed}
-use Rattle.usb_line.proofs.Owners.{owner_bound}
+use Rattle.usb_trace.proofs.Owners.{owner_bound}
 use Rattle.usb_device.proofs.Lookups.{each_set}
 
 -- the cores have seen so much each, and their questions are out or not

@@ -12,7 +12,7 @@ use Rattle.usb_machine.specs.Legal.{Follows, urb_of}
 use Rattle.usb_machine.specs.Plain.{IsOfUrb}
 use Rattle.usb_machine.specs.Calls.{mark_entry, marks_of}
 use Rattle.usb_prepare.specs.Below.{below}
-use Rattle.usb_line.proofs.Entries.{own_state, other_state, AllFollow, AllFollow-append}
+use Rattle.usb_trace.proofs.Entries.{own_state, other_state, AllFollow, AllFollow-append}
 
 -- marks with the answers that a function says
 pub marks_by : (p : ℕ) (why : Why) (answer : ℕ → Code) (us : List ℕ) → marks_of p why us (map answer us) ≡ map (λ u. mark_entry p why u (answer u)) us

@@ -11,14 +11,14 @@ use Rattle.usb_machine.specs.declared.entry.Entry.{Entry}
 use Rattle.usb_machine.specs.Calls.{plain_entry, poison_entries, kill_entries, marks_of, claims_of}
 use Rattle.usb_scene.specs.declared.scene.Scene.{Scene}
 use Rattle.usb_prepare.specs.Layout.{urb_count}
-use Rattle.usb_line.specs.declared.made.HostCall.{HostCall}
-use Rattle.usb_line.specs.declared.made.HostCall.TheVariants as host_call
-use Rattle.usb_line.specs.declared.made.CallAnswer.{CallAnswer}
-use Rattle.usb_line.specs.declared.made.CallAnswer.TheVariants as told
-use Rattle.usb_line.specs.Prepared.{fresh, submit_fault}
-use Rattle.usb_line.specs.Run.{urbs_of, CallRecord, submit_of, killed_by, host_call_entries, IsAnswered, down_after}
-use Rattle.usb_line.proofs.Entries.{AreOf, AreOf-append}
-use Rattle.usb_line.proofs.Stills.{flags_pass, unflags_pass, marks_pass}
+use Rattle.usb_trace.specs.declared.rows.HostCall.{HostCall}
+use Rattle.usb_trace.specs.declared.rows.HostCall.TheVariants as host_call
+use Rattle.usb_trace.specs.declared.rows.CallAnswer.{CallAnswer}
+use Rattle.usb_trace.specs.declared.rows.CallAnswer.TheVariants as told
+use Rattle.usb_trace.specs.Plan.{fresh, submit_fault}
+use Rattle.usb_trace.specs.Run.{urbs_of, CallRecord, submit_of, killed_by, host_call_entries, IsAnswered, down_after}
+use Rattle.usb_trace.proofs.Entries.{AreOf, AreOf-append}
+use Rattle.usb_trace.proofs.Stills.{flags_pass, unflags_pass, marks_pass}
 use Rattle.usb_line.proofs.Submits.{submit_pass}
 use Rattle.usb_line.proofs.Held.{AreNoReject, AreNoFlag, AreNoReject-append, rejects_at, down_at, no_reject, no_flag, one_reject, one_withdrawal, all_flags, all_unflags, marks_no_reject, marks_no_flag, claims_no_reject, claims_no_flag, claims_pass, flags_no_reject, unflags_no_reject}
 use Rattle.usb_line.proofs.HostCalls.{raises, withdraws}

@@ -14,12 +14,12 @@ use Rattle.usb_machine.specs.Calls.{plain_entry, mark_entry, claim_entries, unbl
 use Rattle.usb_scene.specs.declared.scene.Scene.{Scene}
 use Rattle.usb_prepare.specs.Layout.{urb_count}
 use Rattle.usb_line.specs.declared.run.LineRun.{LineRun}
-use Rattle.usb_line.specs.Prepared.{machine_of, main_pass}
+use Rattle.usb_trace.specs.Plan.{machine_of, main_pass}
 use Rattle.usb_prepare.specs.Below.{below}
-use Rattle.usb_line.specs.Run.{urbs_of, opening, seen_quiet}
+use Rattle.usb_trace.specs.Run.{urbs_of, opening, seen_quiet}
 use Rattle.usb_line.specs.Line.{Progress, adds, killing, Closes, none, one}
 use Rattle.usb_line.specs.Calls.{MayKill, Killed, IsCalled, KilledEach, Closed}
-use Rattle.usb_line.proofs.Entries.{grows}
+use Rattle.usb_trace.proofs.Entries.{grows}
 use Rattle.usb_line.proofs.Held.{rejects_at, no_reject}
 use Rattle.usb_line.proofs.Effects.{kill_effect}
 use Rattle.usb_line.proofs.Waits.{wait_turned}

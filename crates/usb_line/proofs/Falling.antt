@@ -39,16 +39,16 @@ use Rattle.usb_scene.specs.WellFormed.{IsWellFormed}
 use Rattle.usb_prepare.specs.Ends.{shape_at}
 use Rattle.usb_prepare.specs.Layout.{home}
 use Rattle.usb_prepare.proofs.Facts.{brings}
-use Rattle.usb_line.specs.declared.owner.Owner.{Owner}
-use Rattle.usb_line.specs.declared.made.Outcome.{Outcome}
-use Rattle.usb_line.specs.declared.made.Outcome.TheVariants as outcome
+use Rattle.usb_trace.specs.declared.owner.Owner.{Owner}
+use Rattle.usb_trace.specs.declared.rows.Outcome.{Outcome}
+use Rattle.usb_trace.specs.declared.rows.Outcome.TheVariants as outcome
 use Rattle.usb_line.specs.declared.run.UrbRow.{UrbRow}
 use Rattle.usb_line.specs.declared.run.LineRun.{LineRun}
-use Rattle.usb_line.specs.Prepared.{owner_of}
+use Rattle.usb_trace.specs.Plan.{owner_of}
 use Rattle.usb_machine.specs.Completion.{after_window}
 use Rattle.usb_line.specs.Shows.{IsApt, rank, held, turns_left}
 use Rattle.usb_line.specs.Back.{is_again, left_by, row_back}
-use Rattle.usb_line.proofs.Owners.{owner_end}
+use Rattle.usb_trace.proofs.Owners.{owner_end}
 
 -- a sum changes with what stands at one place: it falls with it, and does not rise with it
 sum_changes : {X : Type 0} (f : X → ℕ) (xs : List X) (i : ℕ) (x y : X) → slice_get xs i ≡ Some x → sum_by f (slice_set xs i y) + f x ≡ sum_by f xs + f y
@@ -100,11 +100,11 @@ module _ (owner : Option Owner) (t now : Transfer) (action : Action) where
   back_keeps outcome.Rest n less = let fell = back_none outcome.Rest n refl in omega arith
   back_keeps (outcome.Asked code) n less = let fell = back_none (outcome.Asked code) n refl in omega arith
 
-  back_behind : (o : Outcome) (n : ℕ) → after_window (window_by action now) < after_window t → left_back o n < n + held owner (Some t)
-  back_behind (outcome.Again Zero) n less = omega arith
-  back_behind (outcome.Again (Fault c)) n less = back_none (outcome.Again (Fault c)) n refl
-  back_behind outcome.Rest n less = back_none outcome.Rest n refl
-  back_behind (outcome.Asked code) n less = back_none (outcome.Asked code) n refl
+  back_after : (o : Outcome) (n : ℕ) → after_window (window_by action now) < after_window t → left_back o n < n + held owner (Some t)
+  back_after (outcome.Again Zero) n less = omega arith
+  back_after (outcome.Again (Fault c)) n less = back_none (outcome.Again (Fault c)) n refl
+  back_after outcome.Rest n less = back_none outcome.Rest n refl
+  back_after (outcome.Asked code) n less = back_none (outcome.Asked code) n refl
 
   back_again : (o : Outcome) (n : ℕ) → is_again o ≡ nat_lt 0 n → after_window (window_by action now) ≤ after_window t → left_back o n < n + held owner (Some t)
   back_again (outcome.Again Zero) n is less = let some = some_left n is in omega arith
@@ -150,9 +150,9 @@ module _ (run new : LineRun) (u : ℕ) (row : UrbRow) (t now : Transfer) (at : s
       let rows = sum_keeps weight run.urbs.items u row (row_back o action now mid) at (omega arith) in omega arith
 
   -- it goes on after its window
-  pub falls_behind : after_window (window_by action now) < after_window t → all_left new.devices.items ≤ all_left run.devices.items → turns_left new < turns_left run
-  falls_behind on keeps =
-      let before = was in let after = left_now in let less = back_behind row.owner t now action o row.again on in falls_row (omega arith) keeps
+  pub falls_after : after_window (window_by action now) < after_window t → all_left new.devices.items ≤ all_left run.devices.items → turns_left new < turns_left run
+  falls_after on keeps =
+      let before = was in let after = left_now in let less = back_after row.owner t now action o row.again on in falls_row (omega arith) keeps
 
 -- another place keeps what stands there
 set_other : {X : Type 0} (xs : List X) (i j : ℕ) (y x : X) → j ≢ i → slice_get xs j ≡ Some x → slice_get (slice_set xs i y) j ≡ Some x
@@ -196,17 +196,17 @@ same_buffer : (buf : List ℕ) (from : ℕ) (bytes : List ℕ) → from + length
 same_buffer buf from bytes l = grind (arith, common_steps)
 
 -- what a transfer has after its window stays, however it is moved
-with_behind : (t : Transfer) (bytes : List ℕ) → HasWindow t → length bytes ≤ t.len → after_window (with_bytes t bytes) ≡ after_window t
-with_behind t bytes has fits = let within = has.window in ap (λ n. n - (t.from + t.len)) (same_buffer t.buf t.from bytes (omega arith))
+with_after : (t : Transfer) (bytes : List ℕ) → HasWindow t → length bytes ≤ t.len → after_window (with_bytes t bytes) ≡ after_window t
+with_after t bytes has fits = let within = has.window in ap (λ n. n - (t.from + t.len)) (same_buffer t.buf t.from bytes (omega arith))
 
 moved_behind_by : (d : Direction) (max : ℕ) (t : Transfer) (replies : List Reply) → HasWindow t → HasWindow (moved_by d max t replies) → after_window (moved_by d max t replies) ≡ after_window t
-moved_behind_by Input max t replies has now = with_behind t (good_bytes max t.len [] replies) has now.within
+moved_behind_by Input max t replies has now = with_after t (good_bytes max t.len [] replies) has now.within
 moved_behind_by Out max t replies has now = refl
-moved_behind_by ControlIn max t replies has now = with_behind t (data_in t.len replies) has now.within
+moved_behind_by ControlIn max t replies has now = with_after t (data_in t.len replies) has now.within
 moved_behind_by ControlOut max t replies has now = refl
 
-pub moved_behind : (shape : Shape) (t : Transfer) (replies : List Reply) → HasWindow t → after_window (moved shape t replies) ≡ after_window t
-moved_behind shape t replies has = moved_behind_by (direction_of shape t) shape.max t replies has (moved_window shape t replies has)
+pub moved_after : (shape : Shape) (t : Transfer) (replies : List Reply) → HasWindow t → after_window (moved shape t replies) ≡ after_window t
+moved_after shape t replies has = moved_behind_by (direction_of shape t) shape.max t replies has (moved_window shape t replies has)
 
 -- a device that replies has no more items left, and fewer where its last reply came from one
 gave_keeps : (shape : Shape) (t : Transfer) (d : Scripted) (rs : List Reply) (now : Transfer) (e : Scripted) → Gave Replied shape t d rs now e → items_left e ≤ items_left d

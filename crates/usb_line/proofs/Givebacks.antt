@@ -22,16 +22,17 @@ use Rattle.usb_machine.specs.Calls.{entry, plain_entry, submit_entries}
 use Rattle.usb_machine.proofs.Steps.{pending_of-snoc, sent_of-snoc}
 use Rattle.usb_xfer.proofs.Windows.{moved_window}
 use Rattle.usb_scene.specs.declared.scene.Scene.{Scene}
-use Rattle.usb_line.specs.declared.made.Outcome.{Outcome}
-use Rattle.usb_line.specs.declared.made.Outcome.TheVariants as outcome
+use Rattle.usb_trace.specs.declared.rows.Outcome.{Outcome}
+use Rattle.usb_trace.specs.declared.rows.Outcome.TheVariants as outcome
 use Rattle.usb_prepare.specs.Ends.{shape_at}
 use Rattle.usb_prepare.specs.Layout.{home}
-use Rattle.usb_line.specs.Prepared.{machine_of, owner_of, DriverQuestion, question_at}
+use Rattle.usb_trace.specs.Plan.{machine_of, owner_of, DriverQuestion, question_at}
 pub use Rattle.usb_line.specs.Back.{IsGated, IsSettled, CanPose, CanPoseAny, CanGive}
-use Rattle.usb_line.specs.Run.{Giveback, moved_in, resent, submit_of, rest_entry, asked_entries, is_accepted, handled_by, handler_entries, given_entries, giveback_entries}
-use Rattle.usb_line.proofs.Entries.{AreOf, AreOf-append, AreAbout, own_state, other_state, change, AllFollow, AllFollow-append}
+use Rattle.usb_trace.specs.Run.{Giveback, moved_in, resent, submit_of, rest_entry, asked_entries, is_accepted, handled_by, handler_entries, given_entries, giveback_entries}
+use Rattle.usb_trace.proofs.Entries.{AreOf, AreOf-append, AreAbout, own_state, other_state, change, AllFollow, AllFollow-append}
 use Rattle.usb_line.proofs.MayFollow.{once, finish_follows, give_follows, rest_follows, end_follows, submit_follows, link_follows, submit_owes}
 use Rattle.usb_line.specs.Line.{submit_answer}
+use Rattle.usb_trace.proofs.AskedEach.{asked_each}
 use Rattle.usb_line.proofs.Submits.{submit_pass, submit_state, submit_other, submit_pending, submit_sent, submit_follow}
 use Rattle.usb_line.proofs.Resending.{resent_number, resent_unmoved}
 
@@ -69,23 +70,13 @@ module _ (s : Scene) where
   abbrev shape_of : DriverQuestion → Option Errno
   shape_of a = shape_fault (shape_at s (home s a.urb)) a.transfer
 
-  -- what holds of no entries, and of a submit, holds of what is asked
-  pub asked_each : (P : List Entry → Type 0) (asking : Option DriverQuestion) (c : Code) → P []
-      → ((a : DriverQuestion) → asking ≡ Some a → shape_of a ≡ None → P (submit_entries SERVER a.urb a.transfer c)) → P (asked_entries s asking c)
-  asked_each P None c nothing some = nothing
-  asked_each P (Some a) c nothing some = go (shape_of a) refl
-    where
-      go : (fault : Option Errno) → shape_of a ≡ fault → P (submit_of fault SERVER a.urb a.transfer c)
-      go None is = some a refl is
-      go (Some e) is = nothing
-
   pub asked_pass : (asking : Option DriverQuestion) (c : Code) → AreOf SERVER (asked_entries s asking c)
-  asked_pass asking c = asked_each (AreOf SERVER) asking c tt (λ a is none. submit_pass SERVER a.urb a.transfer c)
+  asked_pass asking c = asked_each s (AreOf SERVER) asking c tt (λ a is none. submit_pass SERVER a.urb a.transfer c)
 
   module _ (h : List Entry) (asking : Option DriverQuestion) (c : Code) where
     -- no other URB's state changes
     pub asked_other : (w : ℕ) → IsApart w (posed_by asking (outcome.Asked c)) → state_of (h ++ asked_entries s asking c) w ≡ state_of h w
-    asked_other w = asked_each (λ xs. IsApart w (posed_by asking (outcome.Asked c)) → state_of (h ++ xs) w ≡ state_of h w) asking c (λ apart. ap (λ l. state_of l w) (append-nil h)) some
+    asked_other w = asked_each s (λ xs. IsApart w (posed_by asking (outcome.Asked c)) → state_of (h ++ xs) w ≡ state_of h w) asking c (λ apart. ap (λ l. state_of l w) (append-nil h)) some
       where
         at : (a : DriverQuestion) → w ≡ a.urb → (c : Code) → IsApart w (posed_by (Some a) (outcome.Asked c)) → state_of (h ++ submit_entries SERVER a.urb a.transfer c) w ≡ state_of h w
         at a same Zero apart = absurd (apart same)
@@ -98,12 +89,12 @@ module _ (s : Scene) where
 
     -- and none becomes pending
     pub asked_pending : (e : ℕ) → pending_of (machine_of s) (h ++ asked_entries s asking c) e ≡ pending_of (machine_of s) h e
-    asked_pending e = asked_each (λ xs. pending_of (machine_of s) (h ++ xs) e ≡ pending_of (machine_of s) h e) asking c (ap (λ l. pending_of (machine_of s) l e) (append-nil h))
+    asked_pending e = asked_each s (λ xs. pending_of (machine_of s) (h ++ xs) e ≡ pending_of (machine_of s) h e) asking c (ap (λ l. pending_of (machine_of s) l e) (append-nil h))
         (λ a is none. submit_pending SERVER a.urb a.transfer h c (machine_of s) e)
 
     -- no other URB's transfer is sent
     pub asked_sent : (w : ℕ) → IsApart w (posed_by asking (outcome.Asked c)) → sent_of (h ++ asked_entries s asking c) w ≡ sent_of h w
-    asked_sent w = asked_each (λ xs. IsApart w (posed_by asking (outcome.Asked c)) → sent_of (h ++ xs) w ≡ sent_of h w) asking c (λ apart. ap (λ l. sent_of l w) (append-nil h)) some
+    asked_sent w = asked_each s (λ xs. IsApart w (posed_by asking (outcome.Asked c)) → sent_of (h ++ xs) w ≡ sent_of h w) asking c (λ apart. ap (λ l. sent_of l w) (append-nil h)) some
       where
         at : (a : DriverQuestion) (c : Code) → IsApart w (posed_by (Some a) (outcome.Asked c)) → cond (eqb a.urb w && is_zero c) (Some a.transfer) (sent_of h w) ≡ sent_of h w
         at a Zero apart = ap (λ b. cond (b && true) (Some a.transfer) (sent_of h w)) (ne_eqb a.urb w (λ e. apart (sym e)))

@@ -17,7 +17,7 @@ use Rattle.usb_machine.specs.Calls.{plain_entry, marks_of, claims_of}
 use Rattle.usb_machine.proofs.Steps.{held_of-snoc}
 use Rattle.usb_machine.proofs.Held.{SetsNoFlag, held_flags_stay}
 use Rattle.usb_prepare.specs.Below.{below}
-use Rattle.usb_line.proofs.Entries.{AreOf}
+use Rattle.usb_trace.proofs.Entries.{AreOf}
 
 abbrev pub held_step : ℕ → Held → Entry → Held
 held_step v d x = cond (is_of v x.event) (held_after d x.event) d

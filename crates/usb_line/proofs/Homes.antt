@@ -23,7 +23,7 @@ use Rattle.usb_scene.specs.WellFormed.{IsUrb, IsBuffer, IsWellFormed}
 use Rattle.usb_prepare.specs.Ends.{shapes_of, shape_at, is_raw_at}
 use Rattle.usb_prepare.specs.Layout.{urb_count, home}
 use Rattle.usb_prepare.proofs.Facts as facts
-use Rattle.usb_line.specs.Prepared.{machine_of, len_in, buffer_of, interface_payload, interface_window, payload_by, window_by, fresh, submit_fault}
+use Rattle.usb_trace.specs.Plan.{machine_of, len_in, buffer_of, interface_payload, interface_window, payload_by, window_by, fresh, submit_fault}
 
 -- what stands at a place of a list
 pub some_at : {X : Type 0} (xs : List X) (k : ℕ) → k < length xs → (x : X) × (slice_get xs k ≡ Some x)

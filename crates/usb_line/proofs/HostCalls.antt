@@ -15,12 +15,12 @@ use Rattle.usb_scene.specs.declared.scene.Target.TheVariants as target
 use Rattle.usb_scene.specs.WellFormed.{IsBuilt, IsCall, role_number, is_on, raised, withdrawn, is_hub_call, IsWellFormed}
 use Rattle.usb_prepare.specs.Layout.{urb_count, role_urb}
 use Rattle.usb_prepare.proofs.Facts as facts
-use Rattle.usb_line.specs.declared.made.HostCall.{HostCall}
-use Rattle.usb_line.specs.declared.made.HostCall.TheVariants as host_call
+use Rattle.usb_trace.specs.declared.rows.HostCall.{HostCall}
+use Rattle.usb_trace.specs.declared.rows.HostCall.TheVariants as host_call
 use Rattle.usb_scene.specs.Operation.{operation_of}
-use Rattle.usb_line.specs.Prepared.{host_call_called, called_urb, host_call_by, host_call_of}
+use Rattle.usb_trace.specs.Plan.{host_call_called, called_urb, host_call_by, host_call_of}
 use Rattle.usb_line.specs.ByNumber.{numbered_on, numbered_on_any, host_call_numbered}
-use Rattle.usb_line.proofs.ByNumber.{by_number}
+use Rattle.usb_trace.proofs.ByNumber.{by_number}
 use Rattle.usb_line.proofs.Called.{called_near}
 
 -- how many rejects a host_call raises on URB v, and how many it withdraws

@@ -11,9 +11,9 @@ use Rattle.usb_machine.specs.Legal.{urb_of}
 use Rattle.usb_machine.specs.Plain.{IsOfUrb, Stands}
 use Rattle.usb_machine.specs.Calls.{plain_entry}
 use Rattle.usb_prepare.specs.Below.{below}
-use Rattle.usb_line.specs.Run.{seen_quiet}
+use Rattle.usb_trace.specs.Run.{seen_quiet}
 use Rattle.usb_line.specs.Steps.{AsMany}
-use Rattle.usb_line.proofs.Entries.{grows, other_state}
+use Rattle.usb_trace.proofs.Entries.{grows, other_state}
 use Rattle.usb_line.proofs.Each.{each-suc}
 use Rattle.usb_line.proofs.Held.{rejects_at, no_reject, one_reject}
 

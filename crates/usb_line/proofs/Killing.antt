@@ -13,11 +13,11 @@ use Rattle.usb_machine.specs.Calls.{plain_entry, mark_entry, claim_entries, unbl
 use Rattle.usb_scene.specs.declared.scene.Scene.{Scene}
 use Rattle.usb_line.specs.declared.run.LineRun.{LineRun}
 use Rattle.usb_prepare.specs.Layout.{urb_count}
-use Rattle.usb_line.specs.Prepared.{machine_of}
+use Rattle.usb_trace.specs.Plan.{machine_of}
 use Rattle.usb_line.specs.Line.{Progress, adds, killing, WaitsFor}
 use Rattle.usb_line.specs.Shows.{Shows}
 use Rattle.usb_line.specs.Calls.{MayKill}
-use Rattle.usb_line.proofs.Entries.{own_state, grows}
+use Rattle.usb_trace.proofs.Entries.{own_state, grows}
 use Rattle.usb_line.proofs.Held.{rejects_at, no_reject, one_reject, holds_reject}
 use Rattle.usb_line.proofs.Waits.{wait_turned, wait_quiet}
 use Rattle.usb_line.proofs.Showing.{shows_still}

@@ -1,4 +1,3 @@
-pub mod Entries
 pub mod MayFollow
 pub mod Takes
 pub mod Lookups
@@ -11,7 +10,6 @@ pub mod Unlinking
 pub mod Returned
 pub mod Questions
 pub mod Controls
-pub mod Dues
 pub mod Asked
 pub mod Cores
 pub mod Falling
@@ -21,18 +19,14 @@ pub mod Pendings
 pub mod Stepping
 pub mod Taking
 pub mod Homes
-pub mod Bytes
 pub mod Moves
 pub mod Resending
 pub mod Givebacks
 pub mod Parts
-pub mod Stills
 pub mod Submits
 pub mod Calm
 pub mod Marked
 pub mod Scanning
-pub mod Scripts
-pub mod Episodes
 pub mod Serving
 pub mod Returning
 pub mod Others
@@ -40,7 +34,6 @@ pub mod Turns
 pub mod Waits
 pub mod Each
 pub mod Held
-pub mod ByNumber
 pub mod HostCalls
 pub mod Effects
 pub mod Passes
@@ -73,20 +66,6 @@ pub mod Ending
 pub mod Telling
 pub mod Submitting
 pub mod Submitted
-pub mod Owners
 pub mod Apt
 pub mod Reading
 pub mod DriverQuestions
-pub mod ExampleScenes
-mod HandlerExamples
-mod CallExamples
-pub mod GivenBack
-pub mod FinishedFlags
-pub mod OneStatus
-pub mod Acked
-pub mod Carrying
-pub mod Windows
-pub mod Beginning
-pub mod Firsts
-pub mod Jobs
-pub mod Heard

@@ -17,8 +17,8 @@ use Rattle.usb_machine.proofs.Rooms.{queued_has_home, home_below, in_line_once}
 use Rattle.usb_scene.specs.declared.scene.Scene.{Scene}
 use Rattle.usb_scene.specs.WellFormed.{IsWellFormed}
 use Rattle.usb_prepare.specs.Layout.{urb_count}
-use Rattle.usb_line.specs.Prepared.{machine_of, pass_of, main_pass}
-use Rattle.usb_line.specs.Run.{urbs_of, Giveback, done_by, call_entries, seen_quiet, kills_of, firsts_of, IsMade, AreFound, opening, IsOver, IsFramed, IsRun}
+use Rattle.usb_trace.specs.Plan.{machine_of, pass_of, main_pass}
+use Rattle.usb_trace.specs.Run.{urbs_of, Giveback, done_by, call_entries, seen_quiet, kills_of, firsts_of, IsMade, AreFound, opening, IsOver, IsFramed, IsRun}
 use Rattle.usb_line.specs.Line.{Progress, AreDowns, begun, adds, IsLineRun}
 use Rattle.usb_line.proofs.Parts.{of_controller, of_handlers}
 use Rattle.usb_line.proofs.MayFollow.{once}
@@ -28,7 +28,7 @@ use Rattle.usb_line.proofs.Scripted.{placed as call_of, calls_made}
 use Rattle.usb_line.proofs.Makings.{IsMadeBy}
 use Rattle.usb_line.proofs.Downs.{length-below, all_below}
 use Rattle.usb_line.proofs.Calls.{Goes, line_goes}
-use Rattle.usb_line.proofs.Entries.{part_own, part_other}
+use Rattle.usb_trace.proofs.Entries.{part_own, part_other}
 use Rattle.usb_line.proofs.ReadsFollow.{reads_pass}
 use Rattle.usb_line.proofs.Longer.{IsLonger, line_longer, closes_longer}
 use Rattle.usb_line.proofs.Closing.{AreKilled, closes_kill, closed, still_queued, seen_still}

@@ -11,8 +11,8 @@ use Rattle.usb_machine.specs.Calls.{plain_entry, marks_of, claim_entries, unbloc
 use Rattle.usb_scene.specs.declared.scene.Scene.{Scene}
 use Rattle.usb_scene.specs.declared.scene.Call.{Call}
 use Rattle.usb_prepare.specs.Ends.{ends_of}
-use Rattle.usb_line.specs.Prepared.{pass_of, main_pass}
-use Rattle.usb_line.specs.Run.{urbs_of, CallRecord, Giveback, giveback_entries, call_entries}
+use Rattle.usb_trace.specs.Plan.{pass_of, main_pass}
+use Rattle.usb_trace.specs.Run.{urbs_of, CallRecord, Giveback, giveback_entries, call_entries}
 use Rattle.usb_line.specs.Line.{Progress, begun, adds, takes_below, with_takes, round_of, replies_had, had_after, killing, Gives, unlinked, ended, GivesBack, none, one, IsIdle, woken, StaysLoud, begins, goes_on, WaitsFor, already, turns, ClaimsEach, call_record, with_call_record, all_flagged, shut_marks, shutting, Makes, at_once, served, killed, poisoned, shut_down, IsLine, start, call, Closes}
 use Rattle.usb_line.proofs.Turns.{passed}
 

@@ -15,9 +15,9 @@ use Rattle.usb_machine.specs.Calls.{entry, plain_entry, mark_entry, claim_entrie
 use Rattle.usb_machine.proofs.Steps.{part_own}
 use Rattle.usb_scene.specs.declared.scene.Scene.{Scene}
 use Rattle.usb_scene.specs.WellFormed.{IsWellFormed}
-use Rattle.usb_line.specs.Prepared.{machine_of}
+use Rattle.usb_trace.specs.Plan.{machine_of}
 use Rattle.usb_line.specs.Line.{Progress, adds, killing, WaitsFor}
-use Rattle.usb_line.proofs.Entries.{AreOf, grows, stays, own_state, AllFollow, AllFollow-append}
+use Rattle.usb_trace.proofs.Entries.{AreOf, grows, stays, own_state, AllFollow, AllFollow-append}
 use Rattle.usb_line.proofs.MayFollow.{mark_follows, reject_follows, withdraw_follows, quiet_follows, claim_follows}
 use Rattle.usb_line.proofs.Held.{rejects_at, no_reject, one_reject, quiet_keeps, holds_reject}
 use Rattle.usb_line.proofs.Serving.{AreBare, Serves}

@@ -20,7 +20,7 @@ use Rattle.usb_machine.specs.Calls.{entry, plain_entry, mark_entry}
 use Rattle.usb_machine.proofs.Steps.{owes_own}
 use Rattle.usb_scene.specs.declared.scene.Scene.{Scene}
 use Rattle.usb_prepare.specs.Layout.{home}
-use Rattle.usb_line.specs.Prepared.{machine_of}
+use Rattle.usb_trace.specs.Plan.{machine_of}
 
 -- an URB first in the list stands in it
 pub once : (u : ℕ) (us others : List ℕ) → us ≡ u ∷ others → 0 < times u us

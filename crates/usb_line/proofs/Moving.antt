@@ -26,9 +26,9 @@ use Rattle.usb_line.specs.declared.run.EndRow.{EndRow}
 use Rattle.usb_line.specs.declared.run.LineRun.{LineRun}
 use Rattle.usb_prepare.specs.Ends.{shape_at, ends_of}
 use Rattle.usb_prepare.specs.Layout.{home}
-use Rattle.usb_line.specs.Prepared.{machine_of, owner_of}
-use Rattle.usb_line.specs.Due.{next_due}
-use Rattle.usb_line.specs.Run.{Giveback, is_first, asked_of, resent}
+use Rattle.usb_trace.specs.Plan.{machine_of, owner_of}
+use Rattle.usb_trace.specs.Due.{next_due}
+use Rattle.usb_trace.specs.Run.{Giveback, is_first, asked_of, resent}
 use Rattle.usb_line.specs.Line.{Progress, asks, asked_so_far, marked_of, replies_had, had_after, GoesTo, IsServed, round_of, given_back, waits, over, stops}
 use Rattle.usb_machine.specs.Completion.{after_window}
 use Rattle.usb_line.specs.Shows.{HoldsTransfer, ShowsUrb, ShowsEnd, ShowsDevices, asked_now, Shows, turns_left, ShowsCores}
@@ -37,7 +37,7 @@ use Rattle.usb_line.specs.Turned.{code_of, SameElse, TakesOut, MovedOn, FallsAsl
 use Rattle.usb_line.proofs.MayFollow.{once}
 use Rattle.usb_line.proofs.Marked.{first_unmarked}
 use Rattle.usb_prepare.proofs.Facts.{home_near}
-use Rattle.usb_line.proofs.Dues.{length-due}
+use Rattle.usb_trace.proofs.Dues.{length-due}
 use Rattle.usb_line.proofs.Questions.{control_moved}
 use Rattle.usb_line.proofs.Asked.{asked_first, asked_same}
 use Rattle.usb_line.proofs.Turns.{outcome_gated, clear_mark}
@@ -49,7 +49,7 @@ use Rattle.usb_line.proofs.Chained.{goes}
 use Rattle.usb_line.proofs.Devices.{replies_due, devices_asked}
 use Rattle.usb_line.proofs.Returned.{shows_returned, falls_returned}
 use Rattle.usb_line.proofs.Posing.{can_pose_any}
-use Rattle.usb_line.proofs.Falling.{moved_behind, all_left, devices_keep, devices_fall, waits_keeps, driver_spends}
+use Rattle.usb_line.proofs.Falling.{moved_after, all_left, devices_keep, devices_fall, waits_keeps, driver_spends}
 use Rattle.usb_line.proofs.Resending.{moved_fits}
 
 is_ended : (step : Step) (code : Code) → Some code ≡ code_of step → step ≡ Ended code
@@ -159,7 +159,7 @@ module _ (s : Scene) (good : IsWellFormed s) (f : Progress) (run out_run on : Li
 
   -- as much stands after its window
   stood : after_window now ≡ after_window t
-  stood = ap after_window moved_now ∙ (moved_behind (shape_at s e) start (had_after s f e start n) has.sent_window ∙ sym (ap after_window has.moving.moving ∙ moved_behind (shape_at s e) start (replies_had s f u) has.sent_window))
+  stood = ap after_window moved_now ∙ (moved_after (shape_at s e) start (had_after s f e start n) has.sent_window ∙ sym (ap after_window has.moving.moving ∙ moved_after (shape_at s e) start (replies_had s f u) has.sent_window))
 
   -- it ended, and came back
   module _ (ending : Code) (is : code ≡ Some ending) (new : LineRun) (back : GaveBack on new u (Some ending) now) (unmarked : marked_of s h ≡ []) (awake : f.asleep e ≡ false) where

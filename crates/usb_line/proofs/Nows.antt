@@ -21,20 +21,20 @@ use Rattle.usb_scene.specs.declared.scene.Scene.{Scene}
 use Rattle.usb_scene.specs.declared.scene.Call.{Call}
 use Rattle.usb_scene.specs.WellFormed.{IsCall, IsWellFormed}
 use Rattle.usb_prepare.specs.Layout.{urb_count}
-use Rattle.usb_line.specs.declared.made.HostCall.{HostCall}
-use Rattle.usb_line.specs.declared.made.HostCall.TheVariants as host_call
-use Rattle.usb_line.specs.declared.made.CallAnswer.{CallAnswer}
-use Rattle.usb_line.specs.declared.made.CallAnswer.TheVariants as told
-use Rattle.usb_line.specs.Prepared.{machine_of, fresh, submit_fault, pass_of, host_call_of}
-use Rattle.usb_line.specs.Run.{urbs_of, CallRecord, submit_of, host_call_entries, call_entries, IsShapeAnswer, IsDownAnswer, IsAnswered}
+use Rattle.usb_trace.specs.declared.rows.HostCall.{HostCall}
+use Rattle.usb_trace.specs.declared.rows.HostCall.TheVariants as host_call
+use Rattle.usb_trace.specs.declared.rows.CallAnswer.{CallAnswer}
+use Rattle.usb_trace.specs.declared.rows.CallAnswer.TheVariants as told
+use Rattle.usb_trace.specs.Plan.{machine_of, fresh, submit_fault, pass_of, host_call_of}
+use Rattle.usb_trace.specs.Run.{urbs_of, CallRecord, submit_of, host_call_entries, call_entries, IsShapeAnswer, IsDownAnswer, IsAnswered}
 use Rattle.usb_line.specs.Line.{Progress, adds, call_record, submit_answer, answer_now}
-use Rattle.usb_line.proofs.Entries.{AllFollow}
+use Rattle.usb_trace.proofs.Entries.{AllFollow}
 use Rattle.usb_line.proofs.MayFollow.{mark_follows, reject_follows, withdraw_follows, unflag_follows}
 use Rattle.usb_line.specs.Shows.{IsApt}
 use Rattle.usb_line.proofs.Homes.{has_home, home_takes, fresh_window}
 use Rattle.usb_line.proofs.OnInterface.{fresh_apt}
 use Rattle.usb_line.proofs.Submits.{submit_follow}
-use Rattle.usb_line.proofs.Stills.{unflags_still}
+use Rattle.usb_trace.proofs.Stills.{unflags_still}
 use Rattle.usb_line.proofs.Each.{each_follow}
 use Rattle.usb_line.proofs.Held.{rejects_at, down_at}
 use Rattle.usb_line.proofs.HostCalls.{withdraws, is_hubs, IsThere, host_call_there}

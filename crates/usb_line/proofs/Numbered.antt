@@ -15,7 +15,7 @@ use Rattle.usb_prepare.specs.Layout.{urb_count}
 use Rattle.usb_prepare.proofs.Below.{length-map_below, get-map_below}
 use Rattle.usb_prepare.proofs.Facts.{bound_near}
 use Rattle.usb_line.specs.declared.run.UrbRow.{UrbRow}
-use Rattle.usb_line.specs.Prepared.{is_numbered_by, is_numbered, number_in}
+use Rattle.usb_trace.specs.Plan.{is_numbered_by, is_numbered, number_in}
 use Rattle.usb_line.specs.Opened.{number_in_rows, new_urb}
 
 -- the transfers of a row's URB have numbers

@@ -23,12 +23,12 @@ use Rattle.usb_line.specs.declared.run.LineRun.{LineRun}
 use Rattle.usb_prepare.specs.Ends.{control_end, shapes_of, shape_at, or_control, raw_in, is_raw_at}
 use Rattle.usb_prepare.specs.Layout.{homes_of, urb_count}
 use Rattle.usb_prepare.specs.Prepared.{bindings_of, ids_of}
-use Rattle.usb_line.specs.Prepared.{machine_of, owner_of, again_in, origin_by, origin_of}
+use Rattle.usb_trace.specs.Plan.{machine_of, owner_of, again_in, origin_by, origin_of}
 use Rattle.usb_prepare.specs.Below.{below}
 use Rattle.usb_line.specs.Line.{at_start}
 use Rattle.usb_line.specs.Shows.{ShowsUrb, ShowsEnd, ShowsDevice, ShowsCores, Shows, asked_now}
 use Rattle.usb_line.specs.Opened.{IsNewEnd, AreNewEnds, origin_in, IsNewCore, AreNewCores, new_urb}
-use Rattle.usb_line.specs.Due.{heard_before}
+use Rattle.usb_trace.specs.Due.{heard_before}
 use Rattle.usb_prepare.specs.Bindings.{HaveHeard}
 use Rattle.usb_prepare.specs.Prepared.{probes_of}
 use Rattle.usb_prepare.specs.Ready.{AreReady}

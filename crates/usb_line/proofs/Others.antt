@@ -13,13 +13,13 @@ use Rattle.usb_machine.proofs.Steps.{pending_of-snoc, sent_of-snoc, part_other}
 use Rattle.usb_machine.proofs.Marks.{accepts_open}
 use Rattle.usb_machine.proofs.Rooms.{pending_is_queued}
 use Rattle.usb_scene.specs.declared.scene.Scene.{Scene}
-use Rattle.usb_line.specs.Prepared.{machine_of}
+use Rattle.usb_trace.specs.Plan.{machine_of}
 use Rattle.usb_line.specs.Line.{Progress, adds}
-use Rattle.usb_line.proofs.Entries.{AreOf, AllFollow}
+use Rattle.usb_trace.proofs.Entries.{AreOf, AllFollow}
 use Rattle.usb_line.proofs.MayFollow.{once}
 use Rattle.usb_line.proofs.Calm.{IsQuietEvent, calm_entry}
 use Rattle.usb_line.proofs.Marked.{first_at_home}
-use Rattle.usb_line.proofs.Episodes.{IsNoGive, no_episode, no_first_given}
+use Rattle.usb_trace.proofs.Episodes.{IsNoGive, no_episode, no_first_given}
 use Rattle.usb_line.proofs.Serving.{served, IsMoving, AreFirstGiven, SentBare, IsBareEntry, AreBare, Serves}
 
 -- an event that is not the server's alone

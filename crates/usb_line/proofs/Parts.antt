@@ -14,11 +14,11 @@ use Rattle.usb_machine.specs.declared.event.Answer.{Answer}
 use Rattle.usb_machine.specs.declared.transfer.Transfer.{Transfer}
 use Rattle.usb_machine.specs.Calls.{submit_entries}
 use Rattle.usb_scene.specs.declared.scene.Scene.{Scene}
-use Rattle.usb_line.specs.declared.made.Outcome.{Outcome}
-use Rattle.usb_line.specs.declared.made.Outcome.TheVariants as outcome
-use Rattle.usb_line.specs.Prepared.{question_at}
-use Rattle.usb_line.specs.Run.{Giveback, is_aside, is_handlers, moved_in, resent, handled_by, handler_entries, given_entries, giveback_entries}
-use Rattle.usb_line.proofs.Givebacks.{asked_each}
+use Rattle.usb_trace.specs.declared.rows.Outcome.{Outcome}
+use Rattle.usb_trace.specs.declared.rows.Outcome.TheVariants as outcome
+use Rattle.usb_trace.specs.Plan.{question_at}
+use Rattle.usb_trace.specs.Run.{Giveback, is_aside, is_handlers, moved_in, resent, handled_by, handler_entries, given_entries, giveback_entries}
+use Rattle.usb_trace.proofs.AskedEach.{asked_each}
 
 filter_and : (p q : Entry → Bool) (xs : List Entry) → filter (λ x. p x && q x) xs ≡ filter q (filter p xs)
 filter_and p q [] = refl

@@ -7,7 +7,7 @@ use Rattle.usb_machine.specs.declared.entry.TheConstants.{SERVER, HUB}
 use Rattle.usb_scene.specs.declared.scene.Scene.{Scene}
 use Rattle.usb_scene.specs.declared.scene.SceneThread.{SceneThread}
 use Rattle.usb_scene.specs.WellFormed.{IsThread, IsWellFormed}
-use Rattle.usb_line.specs.Prepared.{is_hub, pass_by, pass_of, main_pass}
+use Rattle.usb_trace.specs.Plan.{is_hub, pass_by, pass_of, main_pass}
 
 pass_range : (i : ℕ) (o : Option SceneThread) → 0 < pass_by i o × pass_by i o ≤ 2 + i
 pass_range i None = (omega arith, omega arith)

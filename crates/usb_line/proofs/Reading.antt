@@ -21,20 +21,20 @@ use Rattle.usb_prepare.specs.Ends.{shape_at, shapes_of}
 use Rattle.usb_prepare.specs.Layout.{home}
 use Rattle.usb_prepare.proofs.Below.{length-below}
 use Rattle.usb_prepare.proofs.Facts.{home_near}
-use Rattle.usb_line.specs.declared.owner.Owner.{Owner}
+use Rattle.usb_trace.specs.declared.owner.Owner.{Owner}
 use Rattle.usb_line.specs.declared.run.UrbRow.{UrbRow}
 use Rattle.usb_line.specs.declared.run.LineRun.{LineRun}
-use Rattle.usb_line.specs.Prepared.{is_numbered, number_of, owner_of, reading, read_by, read_of, main_pass}
-use Rattle.usb_line.specs.Run.{submit_of, read_entries_by, read_entries}
+use Rattle.usb_trace.specs.Plan.{is_numbered, number_of, owner_of, reading, read_by, read_of, main_pass}
+use Rattle.usb_trace.specs.Run.{submit_of, read_entries_by, read_entries}
 use Rattle.usb_line.specs.Line.{Progress, at_start, adds}
 use Rattle.usb_line.specs.Shows.{Shows}
 use Rattle.usb_line.specs.Reads.{read_below, MayRead}
 use Rattle.usb_line.specs.Sent.{MaySend, Sent}
-use Rattle.usb_line.proofs.Entries.{AreAbout, other_state}
+use Rattle.usb_trace.proofs.Entries.{AreAbout, other_state}
 use Rattle.usb_line.proofs.Submits.{submit_about}
 use Rattle.usb_line.proofs.Homes.{has_home, home_shape}
 use Rattle.usb_line.proofs.Killing.{plain_urbs}
-use Rattle.usb_line.proofs.Owners.{owner_size}
+use Rattle.usb_trace.proofs.Owners.{owner_size}
 use Rattle.usb_line.proofs.Apt.{bare_apt}
 
 -- the entries of a read are about its URB

@@ -21,22 +21,23 @@ use Rattle.usb_class.proofs.Facts.{is_write}
 use Rattle.usb_machine.specs.History.{state_of}
 use Rattle.usb_scene.specs.declared.scene.Scene.{Scene}
 use Rattle.usb_scene.specs.WellFormed.{IsWellFormed}
-use Rattle.usb_line.specs.declared.owner.Owner.{Owner}
-use Rattle.usb_line.specs.declared.made.Outcome.{Outcome}
-use Rattle.usb_line.specs.declared.made.Outcome.TheVariants as outcome
+use Rattle.usb_trace.specs.declared.owner.Owner.{Owner}
+use Rattle.usb_trace.specs.declared.rows.Outcome.{Outcome}
+use Rattle.usb_trace.specs.declared.rows.Outcome.TheVariants as outcome
 use Rattle.usb_line.specs.declared.giveback.PosedQuestion.{PosedQuestion}
 use Rattle.usb_line.specs.declared.run.UrbRow.{UrbRow}
 use Rattle.usb_line.specs.declared.run.EndRow.{EndRow}
 use Rattle.usb_line.specs.declared.run.LineRun.{LineRun}
 use Rattle.usb_prepare.specs.Ends.{shape_at}
 use Rattle.usb_prepare.specs.Layout.{home}
-use Rattle.usb_line.specs.Prepared.{machine_of, owner_of, again_of, DriverQuestion, question_at}
-use Rattle.usb_line.specs.Run.{Giveback, moved_in, action_by, is_accepted, may_again, question_out, asks_or_rests, given_entries, giveback_entries, times_back}
+use Rattle.usb_trace.specs.Plan.{machine_of, owner_of, again_of, DriverQuestion, question_at}
+use Rattle.usb_trace.specs.Run.{Giveback, moved_in, action_by, is_accepted, may_again, question_out, asks_or_rests, given_entries, giveback_entries, times_back}
 use Rattle.usb_line.specs.Line.{Progress, outcome_by, round_of, given_back}
-use Rattle.usb_line.specs.GivebackRow.{giveback_row, brought_bytes, sent_bytes}
+use Rattle.usb_trace.specs.GivebackRow.{giveback_row, brought_bytes, sent_bytes}
 use Rattle.usb_machine.specs.Completion.{after_window}
 use Rattle.usb_line.specs.Shows.{IsApt, HoldsTransfer, ShowsDevices, ShowsUrb, Shows, rank, turns_left}
-use Rattle.usb_line.specs.Back.{Adds, MayGive, CanPoseAny, is_again, row_back, GaveBack, given_after, Noted, QuestionBy, SettledBy, Settled, IsPosedBy}
+use Rattle.usb_trace.specs.GivebackRow.{Adds}
+use Rattle.usb_line.specs.Back.{MayGive, CanPoseAny, is_again, row_back, GaveBack, given_after, Noted, QuestionBy, SettledBy, Settled, IsPosedBy}
 use Rattle.usb_line.specs.Turned.{SameElse}
 use Rattle.usb_line.proofs.Moves.{moved_same}
 use Rattle.usb_line.proofs.Homes.{some_at}
@@ -46,7 +47,7 @@ use Rattle.usb_line.proofs.Givebacks.{IsApart, posed, IsPut, put, accepted_idle}
 use Rattle.usb_line.proofs.DriverQuestions.{IsQuestionPosed, IsSeen, noted_action, noted_cores, posed_none, posed_some}
 use Rattle.usb_line.proofs.Resending.{resent_action, resent_apt}
 use Rattle.usb_line.proofs.Backs.{again_by, urb_own, urb_else, urb_posed, end_own, shows_back}
-use Rattle.usb_line.proofs.Falling.{all_left, falls_own, falls_resting, falls_spent, falls_behind, falls_asked, again_narrows, job_narrows}
+use Rattle.usb_line.proofs.Falling.{all_left, falls_own, falls_resting, falls_spent, falls_after, falls_asked, again_narrows, job_narrows}
 use Rattle.usb_device.proofs.Lookups.{each_set, looked_up}
 use Rattle.usb_line.proofs.Lookups.{set_read, set_twice}
 
@@ -343,7 +344,7 @@ module _ (s : Scene) (good : IsWellFormed s) (f : Progress) (run : LineRun) (old
                 let less = job_narrows o.driver status (moved_in s r) from len again in
                 let window : after_window (window_by back.action now) ≡ after_window (window_by (action.Again from len) (moved_in s r)) = (λ i. after_window (window_by (e i) (is i))) in
                 let same : after_window (moved_in s r) ≡ after_window t = ap after_window (sym is) ∙ stood in
-                falls_behind run new u row t now at had back.did back.action back.row same_again same_owner plain_rows (omega arith) kept
+                falls_after run new u row t now at had back.did back.action back.row same_again same_owner plain_rows (omega arith) kept
             narrow from len e false read =
                 let less = again_narrows o.driver o.role status (moved_in s r) from len (sym acts_as ∙ e) in
                 let window : after_window (window_by back.action now) ≡ after_window (window_by (action.Again from len) (moved_in s r)) = (λ i. after_window (window_by (e i) (is i))) in

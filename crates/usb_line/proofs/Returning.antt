@@ -22,22 +22,23 @@ use Rattle.usb_machine.proofs.Steps.{pending_of-snoc, sent_of-snoc}
 use Rattle.usb_xfer.specs.Replies.{Reply}
 use Rattle.usb_xfer.specs.Moved.{IsWhole}
 use Rattle.usb_scene.specs.declared.scene.Scene.{Scene}
-use Rattle.usb_line.specs.declared.made.Outcome.{Outcome}
-use Rattle.usb_line.specs.declared.made.Outcome.TheVariants as outcome
+use Rattle.usb_trace.specs.declared.rows.Outcome.{Outcome}
+use Rattle.usb_trace.specs.declared.rows.Outcome.TheVariants as outcome
 use Rattle.usb_prepare.specs.Ends.{shape_at}
 use Rattle.usb_prepare.specs.Layout.{home}
-use Rattle.usb_line.specs.Prepared.{machine_of, owner_of, DriverQuestion, question_at}
+use Rattle.usb_trace.specs.Plan.{machine_of, owner_of, DriverQuestion, question_at}
 use Rattle.usb_line.specs.Between.{IsBare}
-use Rattle.usb_line.specs.Run.{Giveback, moved_in, resent, rest_entry, handled_by, handler_entries, given_entries, giveback_entries, episode_of, is_aside, is_first, acts, IsGiveback, IsHandled, AreHandled, rounds_at, replies_in, firsts_of, firsts_after, asked_in, asked_of}
+use Rattle.usb_trace.specs.Run.{Giveback, moved_in, resent, rest_entry, handled_by, handler_entries, given_entries, giveback_entries, episode_of, is_aside, is_first, acts, IsGiveback, IsHandled, AreHandled, rounds_at, replies_in, firsts_of, firsts_after, asked_in, asked_of}
 use Rattle.usb_line.specs.Line.{Progress, with_at, given_back, asks}
-use Rattle.usb_line.specs.Due.{next_due}
-use Rattle.usb_line.proofs.Entries.{grows, legal_after}
+use Rattle.usb_trace.specs.Due.{next_due}
+use Rattle.usb_trace.proofs.Entries.{grows, legal_after}
 use Rattle.usb_line.proofs.MayFollow.{once}
-use Rattle.usb_line.proofs.Givebacks.{CanGive, resubmits, asked_each, IsApart, posed, put, queued_apart, giveback_follow, giveback_pass, giveback_pending, giveback_sent, giveback_posed_sent}
+use Rattle.usb_trace.proofs.AskedEach.{asked_each}
+use Rattle.usb_line.proofs.Givebacks.{CanGive, resubmits, IsApart, posed, put, queued_apart, giveback_follow, giveback_pass, giveback_pending, giveback_sent, giveback_posed_sent}
 use Rattle.usb_line.proofs.Calm.{calm_giveback}
 use Rattle.usb_line.proofs.Marked.{first_at_home}
-use Rattle.usb_line.proofs.Dues.{due-append}
-use Rattle.usb_line.proofs.Episodes.{episodes-append, firsts-append}
+use Rattle.usb_trace.proofs.Dues.{due-append}
+use Rattle.usb_trace.proofs.Episodes.{episodes-append, firsts-append}
 use Rattle.usb_line.proofs.Moves.{moved_same}
 use Rattle.usb_line.proofs.Resending.{resent_setup}
 use Rattle.usb_line.proofs.Serving.{served, IsMoving, AreFirstGiven, SentBare, Serves, whole_none, due_none}

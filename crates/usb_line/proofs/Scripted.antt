@@ -7,8 +7,8 @@ use Rattle.std.proofs.lemmas.List.Elements.{All-nil, All-cons, All-head, All-tai
 use Rattle.usb_scene.specs.declared.scene.Scene.{Scene}
 use Rattle.usb_scene.specs.declared.scene.SceneThread.{SceneThread}
 use Rattle.usb_scene.specs.declared.scene.Call.{Call}
-use Rattle.usb_line.specs.Prepared.{calls_from, calls_of}
-use Rattle.usb_line.specs.Run.{CallRecord, done_by}
+use Rattle.usb_trace.specs.Plan.{calls_from, calls_of}
+use Rattle.usb_trace.specs.Run.{CallRecord, done_by}
 
 -- the calls of the thread with this number
 abbrev pub of_thread : ℕ → List (ℕ × Call) → List (ℕ × Call)

@@ -21,17 +21,17 @@ use Rattle.usb_xfer.specs.Replies.{Reply, Question}
 use Rattle.usb_xfer.specs.Moved.{IsWhole, question_of}
 use Rattle.usb_scene.specs.declared.scene.Scene.{Scene}
 use Rattle.usb_prepare.specs.Ends.{ends_of, shape_at}
-use Rattle.usb_line.specs.Prepared.{machine_of, owner_of}
-use Rattle.usb_line.specs.Run.{Giveback, giveback_entries, episode_of, is_aside, IsGiveback, AreHandled, rounds_at, replies_in, firsts_of, asked_of}
+use Rattle.usb_trace.specs.Plan.{machine_of, owner_of}
+use Rattle.usb_trace.specs.Run.{Giveback, giveback_entries, episode_of, is_aside, IsGiveback, AreHandled, rounds_at, replies_in, firsts_of, asked_of}
 use Rattle.usb_line.specs.Between.{IsBare}
 use Rattle.usb_line.specs.Line.{Progress, takes, takes_below, with_takes, had_after, waits, asks, asked_so_far}
-use Rattle.usb_line.specs.Due.{next_due}
-use Rattle.usb_line.proofs.Entries.{grows, legal_after}
+use Rattle.usb_trace.specs.Due.{next_due}
+use Rattle.usb_trace.proofs.Entries.{grows, legal_after}
 use Rattle.usb_line.proofs.Takes.{below_pass, below_follow, below_sent, pending_above, pending_below}
-use Rattle.usb_line.proofs.Stills.{IsStill, AreStill}
+use Rattle.usb_trace.proofs.Stills.{IsStill, AreStill}
 use Rattle.usb_line.proofs.Calm.{IsCalm, calm_takes}
-use Rattle.usb_line.proofs.Dues.{due-append, due-none, length-due}
-use Rattle.usb_line.proofs.Episodes.{HaveNoGive, no_episode, no_first_given}
+use Rattle.usb_trace.proofs.Dues.{due-append, due-none, length-due}
+use Rattle.usb_trace.proofs.Episodes.{HaveNoGive, no_episode, no_first_given}
 
 -- the entries of the server that belong to its givebacks
 abbrev pub served : List Entry → List Entry

@@ -9,11 +9,11 @@ use Rattle.usb_scene.specs.declared.scene.Scene.{Scene}
 use Rattle.usb_line.specs.declared.run.LineRun.{LineRun}
 use Rattle.usb_prepare.specs.Ends.{shape_at}
 use Rattle.usb_prepare.specs.Layout.{home}
-use Rattle.usb_line.specs.Prepared.{machine_of, host_call_of}
-use Rattle.usb_line.specs.Run.{CallRecord, is_first, down_after}
+use Rattle.usb_trace.specs.Plan.{machine_of, host_call_of}
+use Rattle.usb_trace.specs.Run.{CallRecord, is_first, down_after}
 use Rattle.usb_line.specs.Line.{Progress, adds, replies_had, with_call_record}
 use Rattle.usb_line.specs.Shows.{IsMoving, HoldsTransfer, Shows}
-use Rattle.usb_line.proofs.Stills.{AreStill, stills_pending, stills_sent}
+use Rattle.usb_trace.proofs.Stills.{AreStill, stills_pending, stills_sent}
 use Rattle.usb_line.proofs.Calm.{calm_still, linked_still}
 use Rattle.usb_line.proofs.Closing.{still_queued}
 use Rattle.usb_line.proofs.Asked.{asked_same}

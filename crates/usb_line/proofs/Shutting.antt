@@ -16,15 +16,15 @@ use Rattle.usb_scene.specs.declared.scene.Scene.{Scene}
 use Rattle.usb_scene.specs.WellFormed.{IsWellFormed}
 use Rattle.usb_prepare.specs.Layout.{urb_count}
 use Rattle.usb_line.specs.declared.run.LineRun.{LineRun}
-use Rattle.usb_line.specs.Prepared.{machine_of}
+use Rattle.usb_trace.specs.Plan.{machine_of}
 use Rattle.usb_prepare.specs.Below.{below}
-use Rattle.usb_line.specs.Run.{urbs_of}
+use Rattle.usb_trace.specs.Run.{urbs_of}
 use Rattle.usb_line.specs.Line.{Progress, adds, ClaimsEach, one, all_flagged, shut_marks, shutting}
 use Rattle.usb_line.specs.Shows.{Shows}
 use Rattle.usb_line.specs.Calls.{Waited, IsShut, Claimed}
-use Rattle.usb_line.proofs.Entries.{grows}
+use Rattle.usb_trace.proofs.Entries.{grows}
 use Rattle.usb_line.proofs.Each.{marks_by}
-use Rattle.usb_line.proofs.Stills.{flags_still, flags_pass, marks_still, marks_pass}
+use Rattle.usb_trace.proofs.Stills.{flags_still, flags_pass, marks_still, marks_pass}
 use Rattle.usb_line.proofs.Held.{no_flag, all_flags, marks_no_flag, holds_down}
 use Rattle.usb_line.proofs.Waits.{wait_turned, wait_quiet}
 use Rattle.usb_line.proofs.Stopping.{stop_waits, stop_claim, stop_shutting}

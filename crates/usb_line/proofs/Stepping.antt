@@ -17,18 +17,18 @@ use Rattle.usb_machine.specs.Legal.{Follows}
 use Rattle.usb_machine.specs.Plain.{HasRoom, Stands}
 use Rattle.usb_machine.specs.Calls.{entry, plain_entry}
 use Rattle.usb_scene.specs.declared.scene.Scene.{Scene}
-use Rattle.usb_line.specs.declared.made.Outcome.{Outcome}
-use Rattle.usb_line.specs.declared.made.Outcome.TheVariants as outcome
+use Rattle.usb_trace.specs.declared.rows.Outcome.{Outcome}
+use Rattle.usb_trace.specs.declared.rows.Outcome.TheVariants as outcome
 use Rattle.usb_prepare.specs.Ends.{shape_at}
 use Rattle.usb_prepare.specs.Layout.{home}
-use Rattle.usb_line.specs.Prepared.{machine_of, owner_of}
-use Rattle.usb_line.specs.Run.{Giveback, moved_in, resent, handled_by, given_entries}
+use Rattle.usb_trace.specs.Plan.{machine_of, owner_of}
+use Rattle.usb_trace.specs.Run.{Giveback, moved_in, resent, handled_by, given_entries}
 use Rattle.usb_line.specs.declared.giveback.PosedQuestion.{PosedQuestion}
-use Rattle.usb_line.specs.Prepared.{DriverQuestion, question_at}
+use Rattle.usb_trace.specs.Plan.{DriverQuestion, question_at}
 use Rattle.usb_line.specs.Back.{CanGive, finish_entries, given_after, acted_entries, is_again, IsPosed, IsPosedBy}
 use Rattle.usb_line.proofs.Moves.{moved_same}
 use Rattle.usb_line.proofs.Resending.{resent_number}
-use Rattle.usb_line.proofs.Entries.{AllFollow, own_state}
+use Rattle.usb_trace.proofs.Entries.{AllFollow, own_state}
 use Rattle.usb_line.proofs.Givebacks.{given_follow, handled_follow, end_runs}
 use Rattle.usb_line.proofs.MayFollow.{end_follows}
 

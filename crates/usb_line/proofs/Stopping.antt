@@ -27,15 +27,15 @@ use Rattle.usb_xfer.specs.Replies.{Reply}
 use Rattle.usb_xfer.specs.Moved.{moved}
 use Rattle.usb_scene.specs.declared.scene.Scene.{Scene}
 use Rattle.usb_scene.specs.WellFormed.{IsWellFormed}
-use Rattle.usb_line.specs.declared.made.Outcome.{Outcome}
-use Rattle.usb_line.specs.declared.made.Outcome.TheVariants as outcome
+use Rattle.usb_trace.specs.declared.rows.Outcome.{Outcome}
+use Rattle.usb_trace.specs.declared.rows.Outcome.TheVariants as outcome
 use Rattle.usb_prepare.specs.Ends.{ends_of, shape_at}
 use Rattle.usb_prepare.specs.Layout.{urb_count, home}
-use Rattle.usb_line.specs.Prepared.{machine_of, DriverQuestion, question_at}
-use Rattle.usb_line.specs.Run.{urbs_of, Giveback, given_entries, giveback_entries, acts, moved_in}
+use Rattle.usb_trace.specs.Plan.{machine_of, DriverQuestion, question_at}
+use Rattle.usb_trace.specs.Run.{urbs_of, Giveback, given_entries, giveback_entries, acts, moved_in}
 use Rattle.usb_line.specs.Line.{Progress, takes_below, with_takes, is_unlinked, marked_of, had_after, outcome_by, round_of, replies_had, Gives, unlinked, ended, IsIdle, woken, StaysLoud, begins, goes_on, WaitsFor, already, turns, killing, all_flagged, shutting}
 use Rattle.usb_line.specs.Steps.{IsStopping}
-use Rattle.usb_line.proofs.Entries.{own_state, other_state, legal_after}
+use Rattle.usb_trace.proofs.Entries.{own_state, other_state, legal_after}
 use Rattle.usb_line.proofs.Each.{marks_by, each_at}
 use Rattle.usb_line.proofs.Takes.{below_state, line_below, below_follow}
 use Rattle.usb_line.proofs.Givebacks.{resubmits, handled_state, given_state, giveback_state, giveback_other, apart_any, refused_apart}

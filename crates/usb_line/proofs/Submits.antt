@@ -18,8 +18,8 @@ use Rattle.usb_machine.specs.Legal.{Follows}
 use Rattle.usb_machine.specs.Calls.{entry, submit_entries}
 use Rattle.usb_scene.specs.declared.scene.Scene.{Scene}
 use Rattle.usb_prepare.specs.Layout.{home}
-use Rattle.usb_line.specs.Prepared.{machine_of}
-use Rattle.usb_line.proofs.Entries.{AreOf, AreAbout, change, own_state, other_state, AllFollow}
+use Rattle.usb_trace.specs.Plan.{machine_of}
+use Rattle.usb_trace.proofs.Entries.{AreOf, AreAbout, change, own_state, other_state, AllFollow}
 use Rattle.usb_line.proofs.MayFollow.{submit_follows, link_follows, submit_owes}
 
 module _ (p u : ℕ) (t : Transfer) where

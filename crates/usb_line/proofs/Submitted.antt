@@ -16,18 +16,18 @@ use Rattle.usb_scene.specs.declared.scene.Call.{Call}
 use Rattle.usb_scene.specs.WellFormed.{IsBuffer}
 use Rattle.usb_line.specs.declared.run.UrbRow.{UrbRow}
 use Rattle.usb_line.specs.declared.run.LineRun.{LineRun}
-use Rattle.usb_line.specs.declared.made.HostCall.{HostCall}
-use Rattle.usb_line.specs.declared.made.HostCall.TheVariants as host_call
-use Rattle.usb_line.specs.declared.made.CallAnswer.TheVariants as told
+use Rattle.usb_trace.specs.declared.rows.HostCall.{HostCall}
+use Rattle.usb_trace.specs.declared.rows.HostCall.TheVariants as host_call
+use Rattle.usb_trace.specs.declared.rows.CallAnswer.TheVariants as told
 use Rattle.usb_prepare.specs.Ends.{shape_at, shapes_of}
 use Rattle.usb_prepare.specs.Layout.{urb_count, home}
-use Rattle.usb_line.specs.Prepared.{machine_of, buffer_of, payload_by, fresh, submit_fault, pass_of, host_call_of}
-use Rattle.usb_line.specs.Run.{submit_of, host_call_entries, down_after}
+use Rattle.usb_trace.specs.Plan.{machine_of, buffer_of, payload_by, fresh, submit_fault, pass_of, host_call_of}
+use Rattle.usb_trace.specs.Run.{submit_of, host_call_entries, down_after}
 use Rattle.usb_line.specs.Line.{Progress, adds, call_record, answer_now, submit_answer, at_once}
 use Rattle.usb_line.specs.Shows.{Shows}
 use Rattle.usb_line.specs.Calls.{MayMake, Made}
 use Rattle.usb_line.specs.Sent.{said_of, sent_by, MaySend, Sent}
-use Rattle.usb_line.proofs.Stills.{AreStill}
+use Rattle.usb_trace.proofs.Stills.{AreStill}
 use Rattle.usb_line.specs.Shows.{IsApt}
 use Rattle.usb_line.specs.declared.submit.Said.{Said}
 use Rattle.usb_line.proofs.Homes.{has_home, home_takes, fresh_long, fresh_window}

@@ -26,8 +26,8 @@ use Rattle.usb_line.specs.declared.run.UrbRow.{UrbRow}
 use Rattle.usb_line.specs.declared.run.LineRun.{LineRun}
 use Rattle.usb_prepare.specs.Ends.{shape_at}
 use Rattle.usb_prepare.specs.Layout.{home}
-use Rattle.usb_line.specs.Prepared.{machine_of}
-use Rattle.usb_line.specs.Run.{is_first}
+use Rattle.usb_trace.specs.Plan.{machine_of}
+use Rattle.usb_trace.specs.Run.{is_first}
 use Rattle.usb_line.specs.Line.{Progress, adds, replies_had}
 use Rattle.usb_line.specs.Shows.{IsApt, HoldsTransfer, ShowsUrb, ShowsDevices, ShowsCores, Shows, asked_now}
 use Rattle.usb_line.specs.Sent.{MaySend, Sent, Keeps}

@@ -14,8 +14,8 @@ use Rattle.usb_scene.specs.declared.scene.Scene.{Scene}
 use Rattle.usb_line.specs.declared.run.LineRun.{LineRun}
 use Rattle.usb_prepare.specs.Ends.{ends_of, shape_at}
 use Rattle.usb_prepare.specs.Layout.{home}
-use Rattle.usb_line.specs.Prepared.{machine_of}
-use Rattle.usb_line.specs.Run.{is_first}
+use Rattle.usb_trace.specs.Plan.{machine_of}
+use Rattle.usb_trace.specs.Run.{is_first}
 use Rattle.usb_line.specs.Line.{Progress, with_takes, replies_had}
 use Rattle.usb_line.specs.Shows.{HoldsTransfer, Shows}
 use Rattle.usb_line.proofs.Asked.{asked_same}

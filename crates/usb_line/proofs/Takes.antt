@@ -14,9 +14,9 @@ use Rattle.usb_machine.specs.History.{Machine, state_of, after_entry, without_fi
 use Rattle.usb_machine.specs.Calls.{entry}
 use Rattle.usb_machine.proofs.Steps.{line_of-snoc}
 use Rattle.usb_scene.specs.declared.scene.Scene.{Scene}
-use Rattle.usb_line.specs.Prepared.{machine_of}
+use Rattle.usb_trace.specs.Plan.{machine_of}
 use Rattle.usb_line.specs.Line.{takes, takes_below}
-use Rattle.usb_line.proofs.Entries.{AreOf, AreOf-append, AllFollow, AllFollow-append}
+use Rattle.usb_trace.proofs.Entries.{AreOf, AreOf-append, AllFollow, AllFollow-append}
 use Rattle.usb_line.proofs.MayFollow.{take_follows}
 
 abbrev pub took : ℕ → ℕ → Entry

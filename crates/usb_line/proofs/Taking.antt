@@ -7,7 +7,7 @@ use Rattle.usb_machine.specs.History.{line_of}
 use Rattle.usb_machine.specs.Legal.{Follows}
 use Rattle.usb_machine.specs.Plain.{Stands}
 use Rattle.usb_scene.specs.declared.scene.Scene.{Scene}
-use Rattle.usb_line.specs.Prepared.{machine_of}
+use Rattle.usb_trace.specs.Plan.{machine_of}
 use Rattle.usb_line.specs.Line.{takes, takes_below}
 use Rattle.usb_line.proofs.MayFollow.{take_follows}
 use Rattle.usb_line.proofs.Takes.{took, takes_rest, line_above}

@@ -14,17 +14,18 @@ use Rattle.usb_class.specs.Origin.{Origin}
 use Rattle.usb_class.specs.Told.{told_of}
 use Rattle.usb_scene.specs.declared.scene.Scene.{Scene}
 use Rattle.usb_line.specs.declared.run.EndRow.{EndRow}
-use Rattle.usb_line.specs.declared.run.EndReceived.{EndReceived}
+use Rattle.usb_trace.specs.declared.received.EndReceived.{EndReceived}
 use Rattle.usb_line.specs.declared.run.LineRun.{LineRun}
-use Rattle.usb_line.specs.declared.line.LineOutcome.{LineOutcome}
+use Rattle.usb_trace.specs.declared.rows.RunOutcome.{RunOutcome}
 use Rattle.usb_prepare.specs.Ends.{ends_of}
 use Rattle.usb_prepare.specs.Below.{below}
 use Rattle.usb_prepare.specs.Prepared.{bindings_of}
-use Rattle.usb_line.specs.Prepared.{origin_of}
-use Rattle.usb_line.specs.Run.{Giveback, done_at, told_from, drivers_told}
+use Rattle.usb_trace.specs.Plan.{origin_of}
+use Rattle.usb_trace.specs.Run.{Giveback, done_at, told_from, drivers_told}
 use Rattle.usb_line.specs.Line.{Progress}
 use Rattle.usb_line.specs.Shows.{ShowsCores, Shows}
-use Rattle.usb_line.specs.Outcome.{received_at, end_of}
+use Rattle.usb_trace.specs.Rows.{end_of}
+use Rattle.usb_line.specs.Outcome.{received_at}
 use Rattle.usb_line.proofs.Homes.{some_at}
 use Rattle.usb_line.proofs.Opening.{pairs_longer}
 
@@ -55,7 +56,7 @@ ends_told s f run shows =
     ∙ ap (λ n. map (end_of s f.rounds) (below n)) shows.all_ends
 
 -- outcomes with the same parts are the same
-pub same_outcome : (o p : LineOutcome) → o.found ≡ p.found → o.board ≡ p.board → o.made ≡ p.made → o.given ≡ p.given → o.told ≡ p.told → o.ends ≡ p.ends → o ≡ p
+pub same_outcome : (o p : RunOutcome) → o.found ≡ p.found → o.board ≡ p.board → o.made ≡ p.made → o.given ≡ p.given → o.told ≡ p.told → o.ends ≡ p.ends → o ≡ p
 same_outcome o p found board made given told ends = λ i. record { found = found i; board = board i; made = made i; given = given i; told = told i; ends = ends i }
 
 -- what a core reports, whatever it has seen

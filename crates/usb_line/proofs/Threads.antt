@@ -7,13 +7,13 @@ use Rattle.usb_scene.specs.declared.scene.SceneThread.{SceneThread}
 use Rattle.usb_scene.specs.declared.scene.Call.{Call}
 use Rattle.usb_scene.specs.Operation.{operation_of}
 use Rattle.usb_scene.specs.WellFormed.{IsWellFormed}
-use Rattle.usb_line.specs.declared.made.CallMade.{CallMade}
-use Rattle.usb_line.specs.declared.made.CallAnswer.{CallAnswer}
+use Rattle.usb_trace.specs.declared.rows.CallMade.{CallMade}
+use Rattle.usb_trace.specs.declared.rows.CallAnswer.{CallAnswer}
 use Rattle.usb_line.specs.declared.run.LineRun.{LineRun}
-use Rattle.usb_line.specs.Prepared.{calls_from, calls_of}
+use Rattle.usb_trace.specs.Plan.{calls_from, calls_of}
 use Rattle.usb_line.specs.Line.{call, with_call_record}
 use Rattle.usb_line.specs.Calls.{Made, MayBeMade, IsUnderway}
-use Rattle.usb_line.specs.Outcome.{made_of}
+use Rattle.usb_trace.specs.Rows.{made_of}
 use Rattle.usb_line.proofs.Scripted.{placed}
 use Rattle.usb_line.proofs.Calls.{makes_call_records}
 

@@ -13,7 +13,7 @@ use Rattle.usb_line.specs.declared.run.LineRun.{LineRun}
 use Rattle.usb_prepare.specs.Ends.{shape_at}
 use Rattle.usb_prepare.specs.Layout.{home}
 use Rattle.usb_prepare.proofs.Facts.{home_near, end_device}
-use Rattle.usb_line.specs.Prepared.{machine_of}
+use Rattle.usb_trace.specs.Plan.{machine_of}
 use Rattle.usb_line.specs.Line.{Progress, marked_of}
 use Rattle.usb_line.specs.Shows.{Shows, turns_left}
 use Rattle.usb_line.specs.Back.{GaveBack}

@@ -26,8 +26,8 @@ use Rattle.usb_line.specs.declared.run.UrbRow.{UrbRow}
 use Rattle.usb_line.specs.declared.run.LineRun.{LineRun}
 use Rattle.usb_prepare.specs.Ends.{ends_of, shape_at}
 use Rattle.usb_prepare.specs.Layout.{home}
-use Rattle.usb_line.specs.Prepared.{machine_of, owner_of}
-use Rattle.usb_line.specs.Run.{Giveback, is_first, asked_of, resent}
+use Rattle.usb_trace.specs.Plan.{machine_of, owner_of}
+use Rattle.usb_trace.specs.Run.{Giveback, is_first, asked_of, resent}
 use Rattle.usb_line.specs.Line.{Progress, asks, is_unlinked, marked_below, marked_of, replies_had, round_of, given_back}
 use Rattle.usb_line.specs.Shows.{asked_now, ShowsDevices, Shows, turns_left}
 use Rattle.usb_line.specs.Back.{MayGive, GaveBack}

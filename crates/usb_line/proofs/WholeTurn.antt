@@ -8,7 +8,7 @@ use Rattle.usb_scene.specs.declared.scene.Scene.{Scene}
 use Rattle.usb_scene.specs.WellFormed.{IsWellFormed}
 use Rattle.usb_line.specs.declared.run.LineRun.{LineRun}
 use Rattle.usb_prepare.specs.Ends.{ends_of}
-use Rattle.usb_line.specs.Prepared.{machine_of}
+use Rattle.usb_trace.specs.Plan.{machine_of}
 use Rattle.usb_line.specs.Line.{Progress, takes_below, with_takes, marked_below, marked_of, unlinked, ended}
 use Rattle.usb_line.specs.Shows.{Shows, IsShown, Turned}
 use Rattle.usb_line.specs.Turned.{GaveUnlinked, EndsServed}

@@ -26,21 +26,21 @@ use Rattle.usb_class.specs.Origin.{Origin}
 use Rattle.usb_class.specs.Questions.{question_by, still_out}
 use Rattle.usb_class.specs.Core.{IsCore, is_asking, CanComplete, CanUnask}
 use Rattle.usb_scene.specs.declared.scene.Scene.{Scene}
-use Rattle.usb_line.specs.declared.owner.Owner.{Owner}
-use Rattle.usb_line.specs.declared.made.Outcome.{Outcome}
-use Rattle.usb_line.specs.declared.made.Outcome.TheVariants as outcome
+use Rattle.usb_trace.specs.declared.owner.Owner.{Owner}
+use Rattle.usb_trace.specs.declared.rows.Outcome.{Outcome}
+use Rattle.usb_trace.specs.declared.rows.Outcome.TheVariants as outcome
 use Rattle.usb_line.specs.declared.run.UrbRow.{UrbRow}
 use Rattle.usb_line.specs.declared.run.EndRow.{EndRow}
-use Rattle.usb_line.specs.declared.run.Received.{Received}
+use Rattle.usb_trace.specs.declared.received.Received.{Received}
 use Rattle.usb_line.specs.declared.run.LineRun.{LineRun}
 use Rattle.usb_prepare.specs.Ends.{shape_at}
 use Rattle.usb_prepare.specs.Layout.{home}
 use Rattle.usb_line.specs.declared.giveback.PosedQuestion.{PosedQuestion}
 use Rattle.usb_line.specs.Between.{IsBare}
-use Rattle.usb_line.specs.Prepared.{machine_of, owner_of, DriverQuestion, question_at}
+use Rattle.usb_trace.specs.Plan.{machine_of, owner_of, DriverQuestion, question_at}
 use Rattle.usb_line.specs.Line.{submit_answer}
-use Rattle.usb_line.specs.Run.{Giveback, moved_in, resent, action_by, asked_entries, handled_by, given_entries, giveback_entries}
-use Rattle.usb_line.specs.GivebackRow.{brought_bytes, sent_bytes, IsReceived}
+use Rattle.usb_trace.specs.Run.{Giveback, moved_in, resent, action_by, asked_entries, handled_by, given_entries, giveback_entries}
+use Rattle.usb_trace.specs.GivebackRow.{brought_bytes, sent_bytes, IsReceived, Adds}
 
 -- the handler was answered by the gate: of the URB that it submits again in this state, or of the one that a question is asked with
 abbrev pub IsGated : Scene → List Entry → ℕ → Option DriverQuestion → Outcome → Type 0
@@ -114,10 +114,6 @@ is_asked o = false
 abbrev pub left_by : Outcome → Action → Transfer → Option Transfer
 left_by (outcome.Again Zero) action t = Some (window_by action t)
 left_by o action t = None
-
--- these bytes more are noted
-abbrev pub Adds : Received → Received → List ℕ → Type 0
-Adds old new more = (bytes : List ℕ) → IsReceived bytes old → IsReceived (bytes ++ more) new
 
 -- an URB's row when its transfer came back and its handler ran
 abbrev pub row_back : Outcome → Action → Transfer → UrbRow → UrbRow

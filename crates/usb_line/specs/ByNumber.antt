@@ -12,9 +12,9 @@ use Rattle.usb_scene.specs.declared.scene.Target.{Target}
 use Rattle.usb_scene.specs.declared.scene.Target.TheVariants as target
 use Rattle.usb_prepare.specs.Prepared.{bindings_of}
 use Rattle.usb_prepare.specs.Layout.{role_urb}
-use Rattle.usb_line.specs.declared.made.HostCall.{HostCall}
-use Rattle.usb_line.specs.declared.made.HostCall.TheVariants as host_call
-use Rattle.usb_line.specs.Prepared.{host_call_called}
+use Rattle.usb_trace.specs.declared.rows.HostCall.{HostCall}
+use Rattle.usb_trace.specs.declared.rows.HostCall.TheVariants as host_call
+use Rattle.usb_trace.specs.Plan.{host_call_called}
 
 -- on an URB the numbers 1 to 7
 abbrev pub numbered_on : ℕ → ℕ → HostCall

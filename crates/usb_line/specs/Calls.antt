@@ -7,17 +7,17 @@ use Rattle.usb_machine.specs.Calls.{claim_entries, unblock_entries}
 use Rattle.usb_scene.specs.declared.scene.Scene.{Scene}
 use Rattle.usb_scene.specs.declared.scene.Call.{Call}
 use Rattle.usb_scene.specs.WellFormed.{IsWellFormed}
-use Rattle.usb_line.specs.declared.made.HostCall.{HostCall}
-use Rattle.usb_line.specs.declared.made.CallAnswer.{CallAnswer}
-use Rattle.usb_line.specs.declared.made.CallMade.{CallMade}
+use Rattle.usb_trace.specs.declared.rows.HostCall.{HostCall}
+use Rattle.usb_trace.specs.declared.rows.CallAnswer.{CallAnswer}
+use Rattle.usb_trace.specs.declared.rows.CallMade.{CallMade}
 use Rattle.usb_line.specs.declared.run.LineRun.{LineRun}
-use Rattle.usb_line.specs.Prepared.{host_call_of, pass_of, main_pass, calls_of}
+use Rattle.usb_trace.specs.Plan.{host_call_of, pass_of, main_pass, calls_of}
 use Rattle.usb_prepare.specs.Below.{below}
 use Rattle.usb_prepare.specs.Layout.{urb_count}
-use Rattle.usb_line.specs.Run.{CallRecord}
+use Rattle.usb_trace.specs.Run.{CallRecord}
 use Rattle.usb_line.specs.Line.{Progress, adds, Gives, StaysLoud, WaitsFor, ClaimsEach, is_quiet, killing, Makes, with_call_record, IsLine, Closes, IsLineRun}
 use Rattle.usb_line.specs.Shows.{Shows}
-use Rattle.usb_line.specs.Outcome.{made_of}
+use Rattle.usb_trace.specs.Rows.{made_of}
 use Rattle.usb_line.specs.Steps.{passes_of, IsStopping}
 
 -- turns left the URB quiet, and none but the last did

@@ -1,12 +1,7 @@
-pub mod Script
-pub mod Prepared
 pub mod ByNumber
-pub mod Due
-pub mod Run
 pub mod Reads
 pub mod Line
 pub mod Between
-pub mod GivebackRow
 pub mod Shows
 pub mod Steps
 pub mod Awake
@@ -16,4 +11,3 @@ pub mod Turned
 pub mod Calls
 pub mod Outcome
 pub mod Sent
-pub mod RunLaws

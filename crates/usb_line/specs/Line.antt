@@ -28,17 +28,17 @@ use Rattle.usb_xfer.specs.declared.packet.Step.TheVariants.{More, Waiting, Ended
 use Rattle.usb_xfer.specs.Moved.{moved, moved_state, IsWhole, question_of}
 use Rattle.usb_scene.specs.declared.scene.Scene.{Scene}
 use Rattle.usb_scene.specs.declared.scene.Call.{Call}
-use Rattle.usb_line.specs.declared.made.HostCall.{HostCall}
-use Rattle.usb_line.specs.declared.made.HostCall.TheVariants as host_call
-use Rattle.usb_line.specs.declared.made.CallAnswer.{CallAnswer}
-use Rattle.usb_line.specs.declared.made.CallAnswer.TheVariants as told
-use Rattle.usb_line.specs.declared.made.Outcome.{Outcome}
-use Rattle.usb_line.specs.declared.made.Outcome.TheVariants as outcome
+use Rattle.usb_trace.specs.declared.rows.HostCall.{HostCall}
+use Rattle.usb_trace.specs.declared.rows.HostCall.TheVariants as host_call
+use Rattle.usb_trace.specs.declared.rows.CallAnswer.{CallAnswer}
+use Rattle.usb_trace.specs.declared.rows.CallAnswer.TheVariants as told
+use Rattle.usb_trace.specs.declared.rows.Outcome.{Outcome}
+use Rattle.usb_trace.specs.declared.rows.Outcome.TheVariants as outcome
 use Rattle.usb_prepare.specs.Ends.{ends_of, shape_at}
 use Rattle.usb_prepare.specs.Layout.{home}
-use Rattle.usb_line.specs.Prepared.{machine_of, DriverQuestion, question_at, submit_fault, host_call_of, pass_of, main_pass, calls_of}
-use Rattle.usb_line.specs.Run.{urbs_of, CallRecord, call_entries, down_after, Giveback, given_entries, giveback_entries, acts, is_first, opening, seen_quiet, asked_of}
-use Rattle.usb_line.specs.Due.{next_due}
+use Rattle.usb_trace.specs.Plan.{machine_of, DriverQuestion, question_at, submit_fault, host_call_of, pass_of, main_pass, calls_of}
+use Rattle.usb_trace.specs.Run.{urbs_of, CallRecord, call_entries, down_after, Giveback, given_entries, giveback_entries, acts, is_first, opening, seen_quiet, asked_of}
+use Rattle.usb_trace.specs.Due.{next_due}
 use Rattle.std.specs.List.{flat_map}
 
 -- how far a run is: its history, its calls, its givebacks, for each endpoint the replies that its first pending transfer

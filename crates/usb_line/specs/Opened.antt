@@ -14,8 +14,8 @@ use Rattle.usb_prepare.specs.Layout.{home}
 use Rattle.usb_types.specs.declared.urb.UrbId.{UrbId}
 use Rattle.usb_types.specs.declared.urb.Role.TheVariants.{Ctl}
 use Rattle.usb_bind.specs.Board.{urb_of_role}
-use Rattle.usb_line.specs.Prepared.{is_numbered_by, owner_of, again_of}
-use Rattle.usb_line.specs.GivebackRow.{IsReceived}
+use Rattle.usb_trace.specs.Plan.{is_numbered_by, owner_of, again_of}
+use Rattle.usb_trace.specs.GivebackRow.{IsReceived}
 use Rattle.usb_line.specs.Line.{at_start}
 use Rattle.usb_line.specs.Shows.{Shows}
 

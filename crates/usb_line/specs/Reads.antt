@@ -5,10 +5,10 @@ use Rattle.usb_scene.specs.declared.scene.Scene.{Scene}
 use Rattle.usb_scene.specs.WellFormed.{IsWellFormed}
 use Rattle.usb_prepare.specs.Below.{below}
 use Rattle.usb_prepare.specs.Layout.{urb_count}
-use Rattle.usb_line.specs.declared.owner.Owner.{Owner}
+use Rattle.usb_trace.specs.declared.owner.Owner.{Owner}
 use Rattle.usb_line.specs.declared.run.LineRun.{LineRun}
-use Rattle.usb_line.specs.Prepared.{owner_of, number_of, main_pass}
-use Rattle.usb_line.specs.Run.{read_entries}
+use Rattle.usb_trace.specs.Plan.{owner_of, number_of, main_pass}
+use Rattle.usb_trace.specs.Run.{read_entries}
 use Rattle.usb_line.specs.Line.{Progress, at_start, adds}
 use Rattle.usb_line.specs.Shows.{Shows}
 

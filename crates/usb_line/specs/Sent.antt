@@ -10,12 +10,12 @@ use Rattle.usb_machine.specs.Calls.{submit_entries}
 use Rattle.usb_scene.specs.declared.scene.Scene.{Scene}
 use Rattle.usb_scene.specs.declared.scene.SceneUrb.{SceneUrb}
 use Rattle.usb_scene.specs.declared.scene.Call.{Call}
-use Rattle.usb_line.specs.declared.made.HostCall.TheVariants as host_call
+use Rattle.usb_trace.specs.declared.rows.HostCall.TheVariants as host_call
 use Rattle.usb_line.specs.declared.run.UrbRow.{UrbRow}
 use Rattle.usb_line.specs.declared.run.LineRun.{LineRun}
 use Rattle.usb_prepare.specs.Layout.{home}
 use Rattle.usb_line.specs.declared.submit.Said.{Said}
-use Rattle.usb_line.specs.Prepared.{machine_of, buffer_of, len_in, short_in, setup_by, payload_by, window_by}
+use Rattle.usb_trace.specs.Plan.{machine_of, buffer_of, len_in, short_in, setup_by, payload_by, window_by}
 use Rattle.usb_line.specs.Line.{Progress, adds}
 use Rattle.usb_line.specs.Shows.{IsApt, Shows}
 use Rattle.usb_line.specs.Steps.{passes_of}

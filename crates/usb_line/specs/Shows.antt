@@ -27,12 +27,12 @@ use Rattle.usb_line.specs.declared.run.LineRun.{LineRun}
 use Rattle.usb_prepare.specs.Ends.{ends_of, shape_at, is_raw_at}
 use Rattle.usb_prepare.specs.Prepared.{bindings_of}
 use Rattle.usb_prepare.specs.Layout.{urb_count, home}
-use Rattle.usb_line.specs.declared.owner.Owner.{Owner}
-use Rattle.usb_line.specs.Prepared.{machine_of, owner_of, again_of, origin_of}
-use Rattle.usb_line.specs.Run.{times_back, Giveback, done_at, is_out, asked_of}
+use Rattle.usb_trace.specs.declared.owner.Owner.{Owner}
+use Rattle.usb_trace.specs.Plan.{machine_of, owner_of, again_of, origin_of}
+use Rattle.usb_trace.specs.Run.{times_back, Giveback, done_at, is_out, asked_of}
 use Rattle.usb_line.specs.Between.{IsCalm, AllLinked, IsBare}
-use Rattle.usb_line.specs.Due.{is_ruled, heard_before}
-use Rattle.usb_line.specs.GivebackRow.{giveback_row, acked_at, IsReceived}
+use Rattle.usb_trace.specs.Due.{is_ruled, heard_before}
+use Rattle.usb_trace.specs.GivebackRow.{giveback_row, acked_at, IsReceived}
 use Rattle.usb_line.specs.Line.{Progress, asked_so_far, replies_had, Gives, GivesBack, IsIdle, woken}
 
 -- URB u may have this transfer: its home is asked at its own address, the transfer halts no endpoint of a device that isn't

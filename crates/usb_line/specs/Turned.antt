@@ -18,7 +18,7 @@ use Rattle.usb_line.specs.declared.run.UrbRow.{UrbRow}
 use Rattle.usb_line.specs.declared.run.EndRow.{EndRow}
 use Rattle.usb_line.specs.declared.run.LineRun.{LineRun}
 use Rattle.usb_prepare.specs.Ends.{ends_of}
-use Rattle.usb_line.specs.Prepared.{machine_of}
+use Rattle.usb_trace.specs.Plan.{machine_of}
 use Rattle.usb_line.specs.Line.{Progress, marked_of, had_after, GoesTo, IsServed, IsMarked, round_of, given_back, replies_had, Passes}
 use Rattle.usb_line.specs.Shows.{Shows, turns_left}
 

@@ -2,7 +2,7 @@
 ghost use Rattle.std.specs.Prelude.{◌≡◌};
 ghost use Rattle.usb_scene.specs.declared.scene.Scene.{Scene};
 ghost use Rattle.usb_scene.specs.declared.scene.Call.{Call};
-ghost use Rattle.usb_line.specs.Prepared.{host_call_of};
+ghost use Rattle.usb_trace.specs.Plan.{host_call_of};
 ghost use Rattle.usb_line.specs.ByNumber.{host_call_numbered};
 
 /// What a call does is what its number in the table of calls says.

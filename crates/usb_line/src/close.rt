@@ -2,7 +2,7 @@
 ghost use Rattle.std.specs.Prelude.{◌≡◌, IfOk};
 ghost use Rattle.usb_scene.specs.declared.scene.Scene.{Scene};
 ghost use Rattle.usb_prepare.specs.Layout.{urb_count};
-ghost use Rattle.usb_line.specs.Prepared.{main_pass};
+ghost use Rattle.usb_trace.specs.Plan.{main_pass};
 ghost use Rattle.usb_line.specs.Line.{Progress};
 ghost use Rattle.usb_line.specs.Calls.{IsCalled, CanEnd, CanClose, KilledEach, Closed};
 

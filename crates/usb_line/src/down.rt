@@ -6,17 +6,17 @@ ghost use Rattle.usb_scene.specs.declared.scene.Scene.{Scene};
 ghost use Rattle.usb_scene.specs.declared.scene.Call.{Call};
 ghost use Rattle.usb_scene.specs.WellFormed.{IsWellFormed};
 ghost use Rattle.usb_prepare.specs.Layout.{urb_count};
-ghost use Rattle.usb_line.specs.declared.made.HostCall.TheVariants as host_call;
+ghost use Rattle.usb_trace.specs.declared.rows.HostCall.TheVariants as host_call;
 ghost use Rattle.usb_line.specs.Line.{Progress, shutting};
 ghost use Rattle.usb_line.specs.Shows.{IsShown, Shows};
 ghost use Rattle.usb_line.specs.Calls.{MayMake, CanMake, Made, IsShut, CanClaim, Claimed};
 
 use crate::every::{flag_each, mark_each, unflag_each};
-use crate::made::CallAnswer;
 use crate::run::LineRun;
 use crate::steps::claim;
 use std::alloc::Global;
 use usb_machine::HUB;
+use usb_trace::CallAnswer;
 use usb_types::{Code, Errno, Memory, UrbId};
 
 impl LineRun<'_> {

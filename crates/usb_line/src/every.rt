@@ -11,9 +11,9 @@ ghost use Rattle.usb_machine.specs.Parts.{part_of, held_of};
 ghost use Rattle.usb_machine.specs.Calls.{plain_entry, mark_entry};
 ghost use Rattle.usb_machine.specs.Plain.{Stands, urbs_of};
 ghost use Rattle.usb_scene.specs.declared.scene.Scene.{Scene};
-ghost use Rattle.usb_line.specs.Prepared.{machine_of};
+ghost use Rattle.usb_trace.specs.Plan.{machine_of};
 ghost use Rattle.usb_prepare.specs.Below.{below};
-ghost use Rattle.usb_line.specs.Run.{seen_quiet};
+ghost use Rattle.usb_trace.specs.Run.{seen_quiet};
 ghost use Rattle.usb_line.specs.Steps.{AsMany, passes_of};
 
 use crate::steps::{flag_down, mark, reject, see_quiet, unflag_down};

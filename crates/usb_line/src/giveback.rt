@@ -5,20 +5,18 @@ ghost use Rattle.usb_machine.specs.Plain.{Stands, urbs_of};
 ghost use Rattle.usb_machine.specs.Shapes.{HasWindow};
 ghost use Rattle.usb_scene.specs.declared.scene.Scene.{Scene};
 ghost use Rattle.usb_line.specs.declared.run.UrbRow.{UrbRow};
-ghost use Rattle.usb_line.specs.Prepared.{machine_of};
-ghost use Rattle.usb_line.specs.Run.{Giveback, given_entries};
+ghost use Rattle.usb_trace.specs.Plan.{machine_of};
+ghost use Rattle.usb_trace.specs.Run.{Giveback, given_entries};
 ghost use Rattle.usb_line.specs.Steps.{AsMany};
-ghost use Rattle.usb_line.specs.Back.{is_again, CanNote, Noted, CanAsk, CanPoseQuestion, QuestionBy, PosesQuestion, CanSettle, Settled, Finished, Acted, Resubmitted, GaveStatus, Handled, GaveBack};
+ghost use Rattle.usb_line.specs.Back.{is_again, CanNote, Noted, CanAsk, CanPoseQuestion, QuestionBy, PosesQuestion, CanSettle, Settled, Finished, Acted, Resubmitted, GaveStatus, Handled, left_by, GaveBack};
 
-use crate::made::{GivebackRow, Outcome};
-use crate::owner::Owner;
-use crate::received::{brought, left_with};
 use crate::run::{LineRun, UrbRow};
 use crate::steps::{code_in, enter};
 use crate::submit::submit_and_link;
 use std::alloc::Global;
-use usb_class::goes_again;
+use usb_class::{goes_again, with_window};
 use usb_machine::{Event, Plain, SERVER, Transfer};
+use usb_trace::{GivebackRow, Outcome, Owner, brought};
 use usb_types::{Action, Code, Errno, Memory, UrbId};
 
 // Marks the URB as finished where its transfer ended with a code.
@@ -123,6 +121,16 @@ fn handle(
     let outcome = act(plain, urb, again, number, posed_question);
     enter(plain, SERVER, Event::End { urb });
     outcome
+}
+
+// What a handler leaves with its URB of the transfer that came back.
+fn left_with(outcome: Outcome, action: Action, t: Transfer) -> Option<Transfer>
+    ensures { result ≡ left_by outcome action t }
+{
+    match outcome {
+        Outcome::Again(Code::Zero) => Some(with_window(action, t)),
+        _ => None,
+    }
 }
 
 impl LineRun<'_> {

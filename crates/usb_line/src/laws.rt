@@ -2,7 +2,7 @@
 ghost use Rattle.std.specs.Prelude.{◌≡◌, false};
 ghost use Rattle.usb_scene.specs.declared.scene.Scene.{Scene};
 ghost use Rattle.usb_scene.specs.WellFormed.{IsWellFormed};
-ghost use Rattle.usb_line.specs.Run.{IsRun};
+ghost use Rattle.usb_trace.specs.Run.{IsRun};
 ghost use Rattle.usb_line.specs.Line.{Progress, AreDowns, IsLineRun};
 
 /// The run in line order of a well-formed scene is one of its runs.

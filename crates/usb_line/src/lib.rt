@@ -1,4 +1,4 @@
-//! The run of a scene in line order: what a run is, what line order adds, the laws of both, and the code that makes it.
+//! The run of a scene in line order: what line order adds to a run, its laws, and the code that makes it.
 #![tactic(auto)]
 
 mod call_laws;
@@ -8,19 +8,14 @@ mod every;
 mod giveback;
 mod laws;
 mod line;
-mod made;
 mod make;
-mod owner;
 mod prepare;
 mod reads;
-mod received;
 mod run;
-mod run_laws;
 mod steps;
 mod stop;
 mod submit;
 mod take;
-mod thread;
 mod turn;
 mod unlinked;
 mod urb_calls;
@@ -32,11 +27,4 @@ pub use laws::{
     a_run_in_line_order_finds_the_host_as_it_was_left, a_run_in_line_order_is_a_run,
     a_scene_has_one_run_in_line_order,
 };
-pub use line::{LineOutcome, run_line};
-pub use made::{CallAnswer, CallMade, GivebackRow, HostCall, Outcome};
-pub use run::{EndReceived, Received};
-pub use run_laws::{
-    a_drivers_windows_follow_one_another, a_printers_windows_are_jobs,
-    a_status_is_the_first_unlinks_or_the_transfers, a_transfer_that_goes_again_comes_back_next,
-    an_endpoint_received_what_it_acknowledged, each_accepted_urb_is_given_back_once,
-};
+pub use line::run_line;

@@ -2,39 +2,25 @@
 ghost use Rattle.std.specs.Prelude.{◌≡◌, [], map, length, List, IfOk};
 ghost use Rattle.usb_scene.specs.declared.scene.Scene.{Scene};
 ghost use Rattle.usb_scene.specs.WellFormed.{IsWellFormed};
-ghost use Rattle.usb_prepare.specs.Prepared.{bindings_of};
+ghost use Rattle.usb_prepare.specs.Prepared.{bindings_of, found_of, probes_of};
 ghost use Rattle.usb_prepare.specs.Ready.{IsPrepared};
-ghost use Rattle.usb_line.specs.Prepared.{calls_of};
-ghost use Rattle.usb_line.specs.Run.{Giveback, drivers_told};
-ghost use Rattle.usb_line.specs.Shows.{ShowsCores};
+ghost use Rattle.usb_trace.specs.Plan.{calls_of};
+ghost use Rattle.usb_trace.specs.Run.{Giveback, drivers_told};
+ghost use Rattle.usb_trace.specs.Rows.{made_of, outcome_of};
+ghost use Rattle.usb_line.specs.Line.{Progress};
+ghost use Rattle.usb_line.specs.Shows.{Shows, ShowsCores};
 ghost use Rattle.usb_line.specs.Calls.{IsUnderway};
 ghost use Rattle.usb_line.specs.Outcome.{received_at, IsOutcome};
 
-use crate::made::{CallMade, GivebackRow};
 use crate::prepare::{OpenedRun, opening};
-use crate::run::{EndReceived, EndRow, LineRun};
-use crate::thread::main_pass_of;
+use crate::run::{EndRow, LineRun};
 use std::alloc::Global;
 use usb_bind::{Board, Bound};
 use usb_class::{Core, Told};
 use usb_prepare::{Found, Prepared};
 use usb_scene::Scene;
+use usb_trace::{CallMade, EndReceived, RunOutcome, main_pass_of};
 use usb_types::{List, Memory};
-
-/// What a run leaves for its report.
-#[derive(Drop)]
-pub struct LineOutcome {
-    /// What each device is found to be.
-    pub found: List<Found>,
-    /// Which driver has which interface.
-    pub board: Board,
-    pub made: List<CallMade>,
-    pub given: List<GivebackRow>,
-    /// Of each binding, by its place, what its driver reports.
-    pub told: List<Told>,
-    /// Of each endpoint, by its number.
-    pub ends: List<EndReceived>,
-}
 
 // What each endpoint acknowledged.
 fn received(alloc: Global, ends: Vec<EndRow>) -> Result<List<EndReceived>, Memory>
@@ -80,8 +66,31 @@ fn make_calls(
     Ok(())
 }
 
+// What a run leaves for its report.
+fn leaves(
+    alloc: Global,
+    run: LineRun<'_>,
+    found: List<Found>,
+    board: Board,
+    made: List<CallMade>,
+) -> Result<RunOutcome, Memory>
+    ensures { IfOk result (λ o. (s : Scene) (f : Progress) → found ≡ found_of s → board ≡ (probes_of s).board → made ≡ map made_of f.call_records
+        → Shows s f run.entry → o ≡ outcome_of s f.call_records f.rounds) }
+{
+    let told = told(alloc, run.cores)?;
+    let ends = received(alloc, run.ends)?;
+    Ok(RunOutcome {
+        found,
+        board,
+        made,
+        given: run.given,
+        told,
+        ends,
+    })
+}
+
 /// Makes the calls of a prepared scene one after another, and closes.
-pub fn run_line(alloc: Global, scene: &Scene, prepared: Prepared<'_>) -> Result<LineOutcome, Memory>
+pub fn run_line(alloc: Global, scene: &Scene, prepared: Prepared<'_>) -> Result<RunOutcome, Memory>
     requires good { IsWellFormed scene.now }
     requires prepared { IsPrepared scene.now prepared }
     ensures { IfOk result (IsOutcome scene.now) }
@@ -96,12 +105,5 @@ pub fn run_line(alloc: Global, scene: &Scene, prepared: Prepared<'_>) -> Result<
     let mut made = List::of(Vec::new(alloc));
     make_calls(alloc, scene, board.bindings(), &mut run, &mut made)?;
     run.close(alloc, main)?;
-    Ok(LineOutcome {
-        found,
-        board,
-        made,
-        given: run.given,
-        told: told(alloc, run.cores)?,
-        ends: received(alloc, run.ends)?,
-    })
+    leaves(alloc, run, found, board, made)
 }

@@ -3,16 +3,15 @@ ghost use Rattle.std.specs.Prelude.{◌≡◌, ◌<◌, ◌+◌, ◌++◌, map, 
 ghost use Rattle.usb_scene.specs.WellFormed.{IsWellFormed};
 ghost use Rattle.usb_prepare.specs.Prepared.{bindings_of};
 ghost use Rattle.usb_line.specs.Line.{Progress};
-ghost use Rattle.usb_line.specs.Prepared.{calls_from};
+ghost use Rattle.usb_trace.specs.Plan.{calls_from};
 ghost use Rattle.usb_line.specs.Calls.{MayBeMade, CanBeMade, Made, IsUnderway};
 
-use crate::made::{CallAnswer, CallMade, HostCall};
 use crate::run::LineRun;
 use crate::submit::said_of;
-use crate::thread::{host_call_in, pass_of_thread};
 use std::alloc::Global;
 use usb_bind::Bound;
 use usb_scene::{Call, Scene};
+use usb_trace::{CallAnswer, CallMade, HostCall, host_call_in, pass_of_thread};
 use usb_types::{List, Memory, UrbId};
 
 impl LineRun<'_> {

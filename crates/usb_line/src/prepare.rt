@@ -5,20 +5,20 @@ ghost use Rattle.usb_prepare.specs.Below.{below};
 ghost use Rattle.usb_prepare.specs.Prepared.{probes_of};
 ghost use Rattle.usb_prepare.specs.Ready.{IsPrepared};
 ghost use Rattle.usb_prepare.specs.Layout.{homes_of, urb_count};
-ghost use Rattle.usb_line.specs.Prepared.{machine_of, again_in};
+ghost use Rattle.usb_trace.specs.Plan.{machine_of, again_in};
 ghost use Rattle.usb_line.specs.Opened.{IsNewEnd, AreNewEnds, number_in_rows, origin_in, IsNewCore, AreNewCores, IsOpenedRun, new_urb};
 ghost use Rattle.usb_machine.specs.History.{or_zero};
 ghost use Rattle.usb_machine.specs.Plain.{Stands};
 
-use crate::owner::{Owner, owner_in};
 use crate::reads::{FIRST, numbers};
-use crate::run::{EndRow, LineRun, Received, UrbRow};
+use crate::run::{EndRow, LineRun, UrbRow};
 use std::alloc::{AllocError, Global};
 use usb_bind::{Board, Bound};
 use usb_class::Core;
 use usb_machine::{Plain, Shape};
 use usb_prepare::{Found, Prepared};
 use usb_scene::{Scene, SceneUrb};
+use usb_trace::{Owner, Received, owner_in};
 use usb_types::{Buf, List, Memory, Role, UrbId};
 
 // An endpoint where nothing waits.

@@ -1,17 +1,17 @@
 //! Main submits the reads that drivers keep.
 ghost use Rattle.std.specs.Prelude.{◌≡◌, ◌+◌, if◌then◌else◌, IfOk};
 ghost use Rattle.usb_scene.specs.declared.scene.Scene.{Scene};
-ghost use Rattle.usb_line.specs.Prepared.{is_numbered_by, read_by};
+ghost use Rattle.usb_trace.specs.Plan.{is_numbered_by, read_by};
 ghost use Rattle.usb_line.specs.Line.{begun};
 ghost use Rattle.usb_line.specs.Shows.{Shows};
 ghost use Rattle.usb_line.specs.Reads.{MayRead, CanRead, MayBegin, CanBegin, read_below};
 
-use crate::owner::Owner;
 use crate::run::LineRun;
 use crate::submit::zeros;
 use std::alloc::Global;
 use usb_class::has_number;
 use usb_machine::Transfer;
+use usb_trace::Owner;
 use usb_types::{Memory, UrbId};
 
 /// The number of the first transfer that is a driver's own.

@@ -1,10 +1,9 @@
 //! A run in line order, as far as it has come.
 
-use crate::made::GivebackRow;
-use crate::owner::Owner;
 use usb_class::Core;
 use usb_device::Scripted;
 use usb_machine::{Plain, Shape, Transfer};
+use usb_trace::{GivebackRow, Owner, Received};
 use usb_types::{Buf, List};
 
 /// An URB of a run.
@@ -18,22 +17,6 @@ pub struct UrbRow {
     pub again: u32,
     /// Where it is queued, its transfer, as it was moved so far.
     pub transfer: Option<Transfer>,
-}
-
-/// What an OUT endpoint acknowledged, in the transfers that came back.
-#[derive(Drop)]
-pub struct Received {
-    /// How many bytes, at most `u64::MAX`.
-    pub count: u64,
-    /// The first 64 of them.
-    pub first: Buf,
-}
-
-/// What an endpoint acknowledged.
-#[derive(Drop)]
-pub struct EndReceived {
-    pub shape: Shape,
-    pub received: Received,
 }
 
 /// An endpoint of a run.

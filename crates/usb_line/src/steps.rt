@@ -11,7 +11,7 @@ ghost use Rattle.usb_machine.specs.Legal.{Follows};
 ghost use Rattle.usb_machine.specs.Calls.{entry, plain_entry, mark_entry, claim_entries};
 ghost use Rattle.usb_machine.specs.Plain.{IsInside, HasRoom, Stands, urbs_of};
 ghost use Rattle.usb_scene.specs.declared.scene.Scene.{Scene};
-ghost use Rattle.usb_line.specs.Prepared.{machine_of};
+ghost use Rattle.usb_trace.specs.Plan.{machine_of};
 ghost use Rattle.usb_line.specs.Steps.{AsMany, passes_of, told_code, told_number};
 
 use usb_machine::{Answer, Event, HUB, Plain};

@@ -11,23 +11,23 @@ ghost use Rattle.usb_scene.specs.declared.scene.Scene.{Scene};
 ghost use Rattle.usb_scene.specs.WellFormed.{IsWellFormed};
 ghost use Rattle.usb_line.specs.declared.run.UrbRow.{UrbRow};
 ghost use Rattle.usb_line.specs.declared.run.EndRow.{EndRow};
-ghost use Rattle.usb_line.specs.declared.made.HostCall.TheVariants as host_call;
+ghost use Rattle.usb_trace.specs.declared.rows.HostCall.TheVariants as host_call;
 ghost use Rattle.usb_prepare.specs.Ends.{shape_at};
 ghost use Rattle.usb_prepare.specs.Layout.{home};
-ghost use Rattle.usb_line.specs.Prepared.{machine_of, buffer_of, interface_setup, interface_payload, interface_window, setup_by, payload_by, window_by};
+ghost use Rattle.usb_trace.specs.Plan.{machine_of, buffer_of, interface_setup, interface_payload, interface_window, setup_by, payload_by, window_by};
 ghost use Rattle.usb_line.specs.Line.{Progress};
 ghost use Rattle.usb_line.specs.Shows.{Shows};
 ghost use Rattle.usb_line.specs.Steps.{AsMany};
 ghost use Rattle.usb_line.specs.Calls.{MayMake, Made};
 ghost use Rattle.usb_line.specs.Sent.{said_of, sent_by, MayAsk, MaySend, Sent, Keeps, CanSubmit};
 
-use crate::made::CallAnswer;
 use crate::run::LineRun;
 use crate::steps::{code_in, enter};
 use std::alloc::Global;
 use usb_class::{payload_for, setup_for, window_for};
 use usb_machine::{Event, Plain, Transfer, shape_fault};
 use usb_scene::{Call, Operation, SceneUrb, Target};
+use usb_trace::CallAnswer;
 use usb_types::{Buf, Code, Errno, Memory, UrbId};
 
 /// What the scene says of an URB: of a driver's nothing.

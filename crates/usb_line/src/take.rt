@@ -4,7 +4,7 @@ ghost use Rattle.usb_machine.specs.declared.entry.Entry.{Entry};
 ghost use Rattle.usb_machine.specs.History.{line_of};
 ghost use Rattle.usb_machine.specs.Plain.{ends_of, Stands};
 ghost use Rattle.usb_scene.specs.declared.scene.Scene.{Scene};
-ghost use Rattle.usb_line.specs.Prepared.{machine_of};
+ghost use Rattle.usb_trace.specs.Plan.{machine_of};
 ghost use Rattle.usb_line.specs.Line.{takes, takes_below};
 ghost use Rattle.usb_line.specs.Steps.{AsMany};
 

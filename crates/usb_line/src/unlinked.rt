@@ -4,7 +4,7 @@ ghost use Rattle.usb_machine.specs.declared.entry.Entry.{Entry};
 ghost use Rattle.usb_machine.specs.History.{state_of, pending_of};
 ghost use Rattle.usb_machine.specs.Plain.{urbs_of, ends_of, Stands};
 ghost use Rattle.usb_scene.specs.declared.scene.Scene.{Scene};
-ghost use Rattle.usb_line.specs.Prepared.{machine_of};
+ghost use Rattle.usb_trace.specs.Plan.{machine_of};
 ghost use Rattle.usb_line.specs.Line.{is_unlinked, marked_below};
 ghost use Rattle.usb_line.specs.Shows.{IsStood};
 

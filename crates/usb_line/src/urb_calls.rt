@@ -2,15 +2,15 @@
 ghost use Rattle.std.specs.Prelude.{ℕ, IfOk};
 ghost use Rattle.usb_scene.specs.declared.scene.Scene.{Scene};
 ghost use Rattle.usb_scene.specs.declared.scene.Call.{Call};
-ghost use Rattle.usb_line.specs.declared.made.HostCall.TheVariants as host_call;
+ghost use Rattle.usb_trace.specs.declared.rows.HostCall.TheVariants as host_call;
 ghost use Rattle.usb_line.specs.Line.{Progress};
 ghost use Rattle.usb_line.specs.Shows.{IsShown};
 ghost use Rattle.usb_line.specs.Calls.{MayMake, CanMake, Made};
 
-use crate::made::CallAnswer;
 use crate::run::LineRun;
 use crate::steps::{mark, reject, withdraw};
 use std::alloc::Global;
+use usb_trace::CallAnswer;
 use usb_types::{Code, Errno, Memory, UrbId, Why};
 
 impl LineRun<'_> {

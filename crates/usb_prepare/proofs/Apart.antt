@@ -4,7 +4,7 @@ use Rattle.std.specs.Prelude.{slice_get}
 use Rattle.usb_machine.specs.declared.layout.Shape.{Shape}
 use Rattle.usb_scene.specs.declared.scene.SceneDevice.{SceneDevice}
 use Rattle.usb_prepare.specs.Ends.{device_ends, shapes_from}
-use Rattle.usb_prepare.proofs.Lists.{in_either, in_front, get_behind}
+use Rattle.usb_prepare.proofs.Lists.{in_either, in_front, get_after}
 use Rattle.usb_prepare.proofs.Own.{AreOwn, ends_own}
 use Rattle.usb_prepare.proofs.Numbering.{AreDevices, first_is, others_are}
 
@@ -76,17 +76,17 @@ of_device n (d ∷ ds) all i x at = ⊎_elim
     (in_either (device_ends n d) (shapes_from (n + 1) ds) i x at)
 
 -- and the endpoints of a device come after those of the devices before it
-pub stands_behind : (n d : ℕ) (ds : List SceneDevice) (device : SceneDevice) (k : ℕ) (x : Shape) → slice_get ds d ≡ Some device → slice_get (device_ends (n + d) device) k ≡ Some x
+pub stands_after : (n d : ℕ) (ds : List SceneDevice) (device : SceneDevice) (k : ℕ) (x : Shape) → slice_get ds d ≡ Some device → slice_get (device_ends (n + d) device) k ≡ Some x
     → slice_get (shapes_from n ds) (length (shapes_from n (take d ds)) + k) ≡ Some x
-stands_behind n d [] device k x at is = cc
-stands_behind n zero (y ∷ ds) device k x at is =
+stands_after n d [] device k x at is = cc
+stands_after n zero (y ∷ ds) device k x at is =
     let same : y ≡ device = cc in
     ap (slice_get (shapes_from n (y ∷ ds))) (zero-add k)
     ∙ in_front (device_ends n y) (shapes_from (n + 1) ds) k x ((λ i. slice_get (device_ends (sym (add-zero n) i) (same i)) k) ∙ is)
-stands_behind n (suc d) (y ∷ ds) device k x at is =
+stands_after n (suc d) (y ∷ ds) device k x at is =
     let next : n + 1 + d ≡ n + suc d = omega arith in
     let before = shapes_from (n + 1) (take d ds) in
-    let rest = stands_behind (n + 1) d ds device k x at (ap (λ m. slice_get (device_ends m device) k) next ∙ is) in
+    let rest = stands_after (n + 1) d ds device k x at (ap (λ m. slice_get (device_ends m device) k) next ∙ is) in
     let long = length-append (device_ends n y) before in
     let place : length (device_ends n y ++ before) + k ≡ length (device_ends n y) + (length before + k) = omega arith in
-    ap (slice_get (shapes_from n (y ∷ ds))) place ∙ (get_behind (device_ends n y) (shapes_from (n + 1) ds) (length before + k) ∙ rest)
+    ap (slice_get (shapes_from n (y ∷ ds))) place ∙ (get_after (device_ends n y) (shapes_from (n + 1) ds) (length before + k) ∙ rest)

@@ -31,7 +31,7 @@ use Rattle.usb_prepare.specs.Probing.{Asked, Probing, ask_each, id_told, request
 use Rattle.usb_prepare.specs.Prepared.{Probes, with_device, probing_from, probed_device, probed_from, enumeration_of, attached_from, board_of, pool_of, probes_of}
 use Rattle.usb_prepare.proofs.Below.{get-map_below}
 use Rattle.usb_prepare.specs.declared.found.Probe.TheVariants as probe
-use Rattle.usb_prepare.proofs.Lists.{in_either, in_longer, in_front, get_behind, is_there, fold_keeps}
+use Rattle.usb_prepare.proofs.Lists.{in_either, in_longer, in_front, get_after, is_there, fold_keeps}
 use Rattle.usb_prepare.proofs.Needed.{IsFor, IsDue, is_due}
 use Rattle.usb_prepare.proofs.Numbering.{ends_within}
 use Rattle.usb_prepare.proofs.Pooled.{pool_with, spare_is, all_out, slots_out, slot_is}
@@ -258,7 +258,7 @@ module _ (s : Scene) (good : IsWellFormed s) (board : BoardValue) (pool : Homes)
         slot = role.1;
         place = need.0.place;
         due = role.2;
-        home = ap (slice_get ((own ++ old.drivers) ++ new)) place ∙ (get_behind (own ++ old.drivers) new k ∙ (mapped ∙ ap (λ n. Some (behind_first n need.0.place)) start));
+        home = ap (slice_get ((own ++ old.drivers) ++ new)) place ∙ (get_after (own ++ old.drivers) new k ∙ (mapped ∙ ap (λ n. Some (behind_first n need.0.place)) start));
       }
 
   all_homes : (i k : ℕ) (u : UrbId) (has : HasUrb bindings i k u) → HasHome s (own ++ (old.drivers ++ new)) has.0 k u.0

@@ -36,7 +36,7 @@ use Rattle.usb_prepare.specs.Prepared.{probes_of, bindings_of, ids_of}
 use Rattle.usb_prepare.specs.Layout.{homes_of, layout_of, urb_count, home, urb_in, role_urb}
 use Rattle.usb_prepare.proofs.Numbering as numbering
 use Rattle.usb_prepare.proofs.Numbering.{devices_at}
-use Rattle.usb_prepare.proofs.Apart.{AreApart, shapes_apart, shapes_between, stands_behind}
+use Rattle.usb_prepare.proofs.Apart.{AreApart, shapes_apart, shapes_between, stands_after}
 use Rattle.usb_prepare.proofs.Homed.{homes_at}
 use Rattle.usb_prepare.proofs.Asked.{asked_at_home}
 use Rattle.usb_prepare.proofs.Pooled.{up_to_out}
@@ -429,7 +429,7 @@ module _ (s : Scene) (good : IsWellFormed s) where
   -- the k-th endpoint of a device
   kth_end : (d k : ℕ) (device : SceneDevice) (x : Shape) → slice_get s.devices d ≡ Some device → slice_get (device_ends d device) k ≡ Some x → shape_at s (first_end s.devices d + k) ≡ x
   unfolding shapes_of
-  kth_end d k device x at is = ap or_control (stands_behind 0 d s.devices device k x at (ap (λ n. slice_get (device_ends n device) k) (zero-add d) ∙ is))
+  kth_end d k device x at is = ap or_control (stands_after 0 d s.devices device k x at (ap (λ n. slice_get (device_ends n device) k) (zero-add d) ∙ is))
 
   module _ (i : ℕ) (b : Bound) (role : Role) (u : UrbId) (at : slice_get (bindings_of s) i ≡ Some b) (has : urb_of_role b role ≡ Some u) where
     -- the slot of the URB, and its home

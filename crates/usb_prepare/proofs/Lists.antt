@@ -27,9 +27,9 @@ module _ {X : Type 0} where
   in_front (y ∷ xs) ys zero x at = at
   in_front (y ∷ xs) ys (suc i) x at = in_front xs ys i x at
 
-  pub get_behind : (xs ys : List X) (k : ℕ) → slice_get (xs ++ ys) (length xs + k) ≡ slice_get ys k
-  get_behind [] ys k = ap (slice_get ys) (zero-add k)
-  get_behind (x ∷ xs) ys k = let next : length (x ∷ xs) + k ≡ suc (length xs + k) = omega arith in ap (slice_get (x ∷ xs ++ ys)) next ∙ get_behind xs ys k
+  pub get_after : (xs ys : List X) (k : ℕ) → slice_get (xs ++ ys) (length xs + k) ≡ slice_get ys k
+  get_after [] ys k = ap (slice_get ys) (zero-add k)
+  get_after (x ∷ xs) ys k = let next : length (x ∷ xs) + k ≡ suc (length xs + k) = omega arith in ap (slice_get (x ∷ xs ++ ys)) next ∙ get_after xs ys k
 
   -- an item of the front is one of the list
   pub slice_get-take : (xs : List X) (n j : ℕ) (x : X) → slice_get (take n xs) j ≡ Some x → slice_get xs j ≡ Some x

@@ -10,7 +10,7 @@ use Rattle.std.proofs.lemmas.List.Sums.{suffix_len_is, sum_by-cons}
 use Rattle.usb_types.specs.declared.urb.UrbId.{UrbId}
 use Rattle.usb_bind.specs.Pool.{Homes, spare_in, least_in, urb, next_urb, taken, up_to_last}
 use Rattle.usb_bind.specs.Probe.{in_slots, all_next, all_taken}
-use Rattle.usb_prepare.proofs.Positions.{shifted, position_behind}
+use Rattle.usb_prepare.proofs.Positions.{shifted, position_after}
 
 -- the homes that are out, and after them those that aren't
 abbrev pub pool_with : List ℕ → ℕ → Homes
@@ -29,7 +29,7 @@ first_is : (l : List (Option ℕ)) → position is_none (None ∷ l) ≡ Some 0
 first_is l = ap (λ b. cond b (Some 0) None) (lt-ltb 0 (length {A = Option ℕ} (None ∷ l)) (omega arith))
 
 least_is : (hs : List ℕ) (more : ℕ) → least_in (pool_with hs (suc more)) ≡ Some (length hs)
-least_is hs more = position_behind is_none (map Some hs) (replicate (suc more) None) (none_out hs)
+least_is hs more = position_after is_none (map Some hs) (replicate (suc more) None) (none_out hs)
     ∙ (ap (shifted (length (map Some hs))) (first_is (replicate more None)) ∙ ap Some (add-zero (length (map Some hs)) ∙ length-map hs Some))
 
 next_is : (hs : List ℕ) (more : ℕ) → next_urb (pool_with hs (suc more)) ≡ Some (urb (length hs))

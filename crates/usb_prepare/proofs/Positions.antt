@@ -27,8 +27,8 @@ same_test n a b = grind (arith, nat_tests)
 abbrev pub shifted : ℕ → Option ℕ → Option ℕ
 shifted n o = option_map (λ k. n + k) o
 
-pub position_behind : {X : Type 0} (p : X → Bool) (xs ys : List X) → list_any p xs ≡ false → position p (xs ++ ys) ≡ shifted (length xs) (position p ys)
-position_behind p xs ys e =
+pub position_after : {X : Type 0} (p : X → Bool) (xs ys : List X) → list_any p xs ≡ false → position p (xs ++ ys) ≡ shifted (length xs) (position p ys)
+position_after p xs ys e =
     let n = length xs in let k = position_or_len p ys in
     (λ i. cond (ltb (behind_len p xs ys e i) (length-append xs ys i)) (Some (behind_len p xs ys e i)) None)
     ∙ (ap (λ b. cond b (Some (n + k)) None) (same_test n k (length ys)) ∙ go (ltb k (length ys)))
@@ -43,7 +43,7 @@ pub position_from_start : {X : Type 0} (p : X → Bool) (xs : List X) (start : �
 position_from_start p xs start l e =
     let whole : take (length xs - start) (drop start xs) ≡ drop start xs = grind (arith, common_steps) in
     let long : length (take start xs) ≡ start = grind (arith, common_steps) in
-    ap (position p) (sym (take-append-drop start xs)) ∙ (position_behind p (take start xs) (drop start xs) e ∙ (λ i. shifted (long i) (position p (sym whole i))))
+    ap (position p) (sym (take-append-drop start xs)) ∙ (position_after p (take start xs) (drop start xs) e ∙ (λ i. shifted (long i) (position p (sym whole i))))
 
 -- a test that some element passes has a first place
 pub found : {X : Type 0} (p : X → Bool) (xs : List X) → list_any p xs ≡ true → position_or_len p xs < length xs

@@ -131,5 +131,5 @@ one_longer script n k i p is near at =
     ap (number_probed script n (numbers_probed script n p (take k is))) at
     ∙ (sym (fold-append (number_probed script n) p (take k is) (get_or is k i ∷ [])) ∙ ap (numbers_probed script n p) (sym (take_more is k i near)))
 
-pub all_behind : (script : DeviceScript) (n k : ℕ) (p : Probing) (o : Option Attached) (is : List ℕ) → is ≡ numbers_of o → length is ≤ k → numbers_probed script n p (take k is) ≡ probed_device n script o p
-all_behind script n k p o is same l = ap (numbers_probed script n p) (take_all is k l ∙ same) ∙ all_probed script n p o
+pub all_after : (script : DeviceScript) (n k : ℕ) (p : Probing) (o : Option Attached) (is : List ℕ) → is ≡ numbers_of o → length is ≤ k → numbers_probed script n p (take k is) ≡ probed_device n script o p
+all_after script n k p o is same l = ap (numbers_probed script n p) (take_all is k l ∙ same) ∙ all_probed script n p o

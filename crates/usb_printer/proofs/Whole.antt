@@ -18,7 +18,7 @@ use Rattle.usb_printer.specs.declared.event.Event.TheVariants.{Job}
 use Rattle.usb_printer.specs.Ids.{id_events}
 use Rattle.usb_machine.specs.Completion.{Completion, moved_bytes, after_window}
 use Rattle.usb_printer.specs.Jobs.{first_window, is_over, is_unlink, job_events, told_by, events_of, print_events, action_of}
-use Rattle.usb_printer.specs.Whole.{IsMovedOn, IsNotAgain, action_behind, IsWindow, IsJob, WentWell, printed, moved_in, begins_at}
+use Rattle.usb_printer.specs.Whole.{IsMovedOn, IsNotAgain, action_after, IsWindow, IsJob, WentWell, printed, moved_in, begins_at}
 
 pub print_events-append : (id : List ℕ) (before after : List Completion) → print_events id (before ++ after) ≡ print_events id before ++ flat_map events_of after
 print_events-append id before after =
@@ -60,13 +60,13 @@ over_by Zero t h = go (after_window t == 0) refl h
     go false e h = absurd h
 
 -- the last window that went well reaches the end
-reaches_end : (c : Completion) → IsNotAgain (action_behind c) → WentWell c → length c.transfer.buf ≤ c.transfer.from + c.transfer.len
+reaches_end : (c : Completion) → IsNotAgain (action_after c) → WentWell c → length c.transfer.buf ≤ c.transfer.from + c.transfer.len
 reaches_end c h w =
     let over : is_over Zero c.transfer ≡ true = ap (λ (s : Code). is_over s c.transfer) (sym w.status) ∙ over_by c.status c.transfer h in
     let none : length c.transfer.buf - (c.transfer.from + c.transfer.len) ≡ 0 = eqb-true (after_window c.transfer) 0 over in
     omega arith
 
-last_bytes : (c : Completion) → IsNotAgain (action_behind c) → WentWell c → moved_bytes c.transfer ≡ drop c.transfer.from c.transfer.buf
+last_bytes : (c : Completion) → IsNotAgain (action_after c) → WentWell c → moved_bytes c.transfer ≡ drop c.transfer.from c.transfer.buf
 last_bytes c h w =
     let end : length c.transfer.buf ≤ c.transfer.from + c.transfer.len = reaches_end c h w in
     let moved : c.transfer.actual ≡ c.transfer.len = w.moved in
@@ -107,11 +107,11 @@ nothing_follows (b ∷ d ∷ before) c after j n = nothing_follows (d ∷ before
 told_by_window : (c : Completion) → IsWindow c → events_of c ≡ job_events c.status c.transfer
 told_by_window c w = ap (λ (role : Role). told_by role c.status c.transfer) w.write
 
-line_of_last : (c : Completion) → IsWindow c → IsNotAgain (action_behind c)
+line_of_last : (c : Completion) → IsWindow c → IsNotAgain (action_after c)
     → events_of c ≡ Job c.transfer.number (c.transfer.from + c.transfer.actual) c.status ∷ []
 line_of_last c w h = told_by_window c w ∙ ap (λ (b : Bool). cond b (Job c.transfer.number (c.transfer.from + c.transfer.actual) c.status ∷ []) []) (over_by c.status c.transfer h)
 
-no_line_yet : (c : Completion) (next : Transfer) → IsWindow c → IsMovedOn (action_behind c) c.transfer next → events_of c ≡ []
+no_line_yet : (c : Completion) (next : Transfer) → IsWindow c → IsMovedOn (action_after c) c.transfer next → events_of c ≡ []
 no_line_yet c next w h = told_by_window c w ∙ ap (λ (b : Bool). cond b (Job c.transfer.number (c.transfer.from + c.transfer.actual) c.status ∷ []) []) ((moved_by c.status c.transfer next h).2)
 
 abbrev line : Completion → List Event

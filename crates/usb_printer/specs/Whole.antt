@@ -20,8 +20,8 @@ abbrev pub IsNotAgain : Action → Type 0
 IsNotAgain (Again from len) = ⊥
 IsNotAgain action = Unit {0}
 
-abbrev pub action_behind : Completion → Action
-action_behind c = action_of Write c.status c.transfer
+abbrev pub action_after : Completion → Action
+action_after c = action_of Write c.status c.transfer
 
 -- a window of a job came back
 pub record IsWindow (c : Completion) : Type 0 where
@@ -31,8 +31,8 @@ pub record IsWindow (c : Completion) : Type 0 where
 -- these windows came back, each asked for by the one before, until no more was
 abbrev pub IsJob : List Completion → Type 0
 IsJob [] = ⊥
-IsJob (c ∷ []) = IsWindow c × IsNotAgain (action_behind c)
-IsJob (c ∷ next ∷ more) = IsWindow c × IsMovedOn (action_behind c) c.transfer next.transfer × IsJob (next ∷ more)
+IsJob (c ∷ []) = IsWindow c × IsNotAgain (action_after c)
+IsJob (c ∷ next ∷ more) = IsWindow c × IsMovedOn (action_after c) c.transfer next.transfer × IsJob (next ∷ more)
 
 -- the window went well: each byte of it was moved
 pub record WentWell (c : Completion) : Type 0 where

@@ -20,9 +20,9 @@ use Rattle.usb_prepare.specs.declared.found.Taken.TheVariants as taken
 use Rattle.usb_prepare.specs.declared.found.InterfaceFound.{InterfaceFound}
 use Rattle.usb_prepare.specs.declared.found.Found.{Found}
 use Rattle.usb_prepare.specs.declared.found.Found.TheVariants as found
-use Rattle.usb_line.specs.declared.line.LineOutcome.{LineOutcome}
-use Rattle.usb_line.specs.declared.made.CallAnswer.TheVariants as told
-use Rattle.usb_line.specs.declared.made.Outcome.TheVariants as outcome
+use Rattle.usb_trace.specs.declared.rows.RunOutcome.{RunOutcome}
+use Rattle.usb_trace.specs.declared.rows.CallAnswer.TheVariants as told
+use Rattle.usb_trace.specs.declared.rows.Outcome.TheVariants as outcome
 use Rattle.usb_report.specs.Names.{urb_name}
 use Rattle.usb_report.specs.Listing.{class_text, fault_text, list_text}
 use Rattle.usb_report.specs.Telling.{drivers_section}
@@ -86,7 +86,7 @@ module _ (any : SceneDevice) where
   listed = refl
 
   -- the sections in their order
-  abbrev outcome_of_one : LineOutcome
+  abbrev outcome_of_one : RunOutcome
   outcome_of_one = record {
     found = found.Raw ∷ [];
     board = record { devices = []; firsts = []; bindings = modem ∷ [] };

@@ -73,9 +73,9 @@ Once : List Bound → Type 0
 Once bindings = (i j : ℕ) (b c : Bound) (r q : Role) (u : UrbId) → slice_get bindings i ≡ Some b → slice_get bindings j ≡ Some c
     → urb_of_role b r ≡ Some u → urb_of_role c q ≡ Some u → (i ≡ j) × (r ≡ q)
 
-once_behind : (b : Bound) (bindings : List Bound) → Once (b ∷ bindings) → Once bindings
+once_after : (b : Bound) (bindings : List Bound) → Once (b ∷ bindings) → Once bindings
 unfolding Once
-once_behind b bindings once i j c d r q u at there has too = let one = once (suc i) (suc j) c d r q u at there has too in (omega arith, one.1)
+once_after b bindings once i j c d r q u at there has too = let one = once (suc i) (suc j) c d r q u at there has too in (omega arith, one.1)
 
 numbered_id : (o : Option UrbId) (u : ℕ) → option_map (λ (v : UrbId). v.0) o ≡ Some u → o ≡ Some (id u)
 numbered_id None u is = cc
@@ -100,7 +100,7 @@ module _ (s : Scene) (d interface u : ℕ) (r : Role) where
   name : (bindings : List Bound) → Once bindings → asked bindings ≡ Some (id u) → bound_name s u bindings ≡ role_name s d interface r
   unfolding asked Once
   name [] once is = cc
-  name (b ∷ bindings) once is = go (is_binding_of d interface b) refl is (name bindings (once_behind b bindings once))
+  name (b ∷ bindings) once is = go (is_binding_of d interface b) refl is (name bindings (once_after b bindings once))
     where
       here : urb_of_role b r ≡ Some (id u) → is_binding_of d interface b ≡ true → bound_name s u (b ∷ bindings) ≡ role_name s d interface r
       here has e =

@@ -8,9 +8,9 @@ use Rattle.usb_scene.specs.declared.scene.SceneThread.{SceneThread}
 use Rattle.usb_scene.specs.declared.scene.Target.{Target}
 use Rattle.usb_scene.specs.declared.scene.Target.TheVariants as on
 use Rattle.usb_scene.specs.Operation.{operation_text}
-use Rattle.usb_line.specs.declared.made.CallAnswer.{CallAnswer}
-use Rattle.usb_line.specs.declared.made.CallAnswer.TheVariants as told
-use Rattle.usb_line.specs.declared.made.CallMade.{CallMade}
+use Rattle.usb_trace.specs.declared.rows.CallAnswer.{CallAnswer}
+use Rattle.usb_trace.specs.declared.rows.CallAnswer.TheVariants as told
+use Rattle.usb_trace.specs.declared.rows.CallMade.{CallMade}
 use Rattle.usb_report.specs.Numbered.{numbered}
 use Rattle.usb_report.specs.Names.{device_name, own_name_or, role_name}
 

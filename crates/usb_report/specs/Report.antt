@@ -6,11 +6,11 @@ use Rattle.usb_types.specs.Codes.{code_text}
 use Rattle.usb_text.specs.Print.{hex_pair, hex_text, line}
 use Rattle.usb_bind.specs.declared.bound.Bound.{Bound}
 use Rattle.usb_scene.specs.declared.scene.Scene.{Scene}
-use Rattle.usb_line.specs.declared.line.LineOutcome.{LineOutcome}
-use Rattle.usb_line.specs.declared.made.Outcome.{Outcome}
-use Rattle.usb_line.specs.declared.made.Outcome.TheVariants as outcome
-use Rattle.usb_line.specs.declared.made.GivebackRow.{GivebackRow}
-use Rattle.usb_line.specs.declared.run.EndReceived.{EndReceived}
+use Rattle.usb_trace.specs.declared.rows.RunOutcome.{RunOutcome}
+use Rattle.usb_trace.specs.declared.rows.Outcome.{Outcome}
+use Rattle.usb_trace.specs.declared.rows.Outcome.TheVariants as outcome
+use Rattle.usb_trace.specs.declared.rows.GivebackRow.{GivebackRow}
+use Rattle.usb_trace.specs.declared.received.EndReceived.{EndReceived}
 use Rattle.usb_report.specs.Names.{device_name, urb_name}
 use Rattle.usb_report.specs.Listing.{list_text}
 use Rattle.usb_report.specs.Telling.{drivers_section}
@@ -45,6 +45,6 @@ received_section s ends = if list_all has_none ends then [] else line (codes "re
 
 -- the report of a run: what the devices are found to be, the calls with their answers, what was given back, what the
 -- drivers report, and what the endpoints received
-abbrev pub text_of : Scene → LineOutcome → List ℕ
+abbrev pub text_of : Scene → RunOutcome → List ℕ
 text_of s o =
     list_text s o.found ++ threads_text s o.made ++ given_section s o.board.bindings o.given ++ drivers_section s o.board.bindings o.told ++ received_section s o.ends

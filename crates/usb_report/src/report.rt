@@ -11,7 +11,7 @@ use crate::listing::push_list;
 use crate::names::{push_device, push_urb};
 use crate::telling::push_drivers;
 use usb_bind::Bound;
-use usb_line::{EndReceived, GivebackRow, LineOutcome, Outcome};
+use usb_trace::{EndReceived, GivebackRow, RunOutcome, Outcome};
 use usb_scene::Scene;
 use usb_text::{push_hex, push_number, push_pairs};
 use usb_types::{Buf, Code, Memory};
@@ -147,7 +147,7 @@ fn push_received(report: &mut Buf, scene: &Scene, ends: &[EndReceived]) -> Resul
 
 /// Adds the report of a run: what the devices are found to be, the calls that were made, what was given back, what the
 /// drivers report, and what the endpoints received.
-pub fn push_report(report: &mut Buf, scene: &Scene, outcome: &LineOutcome) -> Result<(), Memory>
+pub fn push_report(report: &mut Buf, scene: &Scene, outcome: &RunOutcome) -> Result<(), Memory>
     requires devices { length outcome.now.found < 2 ^ 32 }
     requires threads { length scene.now.threads < 2 ^ 32 }
     ensures { OnOk result (report.new ≡ report.old ++ text_of scene.now outcome.now) }

@@ -6,9 +6,9 @@ use Rattle.usb_scene.specs.declared.scene.Scene.{Scene}
 use Rattle.usb_scene.specs.declared.cause.Cause.{Cause}
 use Rattle.usb_scene.specs.Read.{scene_of}
 use Rattle.usb_prepare.specs.Prepared.{found_of}
-use Rattle.usb_line.specs.Run.{CallRecord, Giveback, IsRun}
+use Rattle.usb_trace.specs.Run.{CallRecord, Giveback, IsRun}
 use Rattle.usb_line.specs.Line.{Progress, IsLineRun}
-use Rattle.usb_line.specs.Outcome.{outcome_of}
+use Rattle.usb_trace.specs.Rows.{outcome_of}
 use Rattle.usb_summary.specs.Summed.{IsSummed}
 use Rattle.usb_report.specs.Listing.{list_text}
 use Rattle.usb_report.specs.Report.{text_of}

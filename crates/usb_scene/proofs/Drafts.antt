@@ -20,11 +20,11 @@ use Rattle.usb_statement.specs.Statements.{is_empty, keyword_said}
 use Rattle.usb_scene.specs.WellFormed.{is_on, held_on, replies_of, replies_in, all_replies, calls_in, all_calls}
 use Rattle.usb_scene.specs.Rules.{SoFar, in_devices, is_low, may_stand, urb_target, interface_target, has_call_left, carries_within, given_len, len_in, again_in, raises, withdraws, held_now, calls_of, last_thread}
 use Rattle.usb_scene.specs.Growth.{bare_device, end_said, with_end, with_bytes, with_port, with_answers, urb_said, plain_call, urb_call_code, bare_call_code, interface_call, with_call, scene_calls, last_changed, scene_with, replies_said, calls_said}
-use Rattle.usb_scene.specs.Counts.{next_count, changed, counts_behind, AreFair, AreCounted, IsDraft}
+use Rattle.usb_scene.specs.Counts.{next_count, changed, counts_after, AreFair, AreCounted, IsDraft}
 use Rattle.usb_scene.specs.Named.{found_with, called_target}
 use Rattle.usb_scene.proofs.Allowed.{IsAllowed}
 use Rattle.usb_scene.proofs.HeldCounts.{urb_call, IsQuiet, quiet_submit, quiet_alone, quiet_interface, held_quiet, fair_quiet, held_same, held_other, fair_said, next_most}
-use Rattle.usb_scene.proofs.Naming.{found_behind}
+use Rattle.usb_scene.proofs.Naming.{found_after}
 use Rattle.usb_scene.proofs.Scenes.{length-on_last, last_push, calls_grown, sum_by-on_last, sum_by-on_last_same, sum_by-joined, not_empty}
 use Rattle.usb_scene.proofs.Targets.{same_urb, on_turned}
 
@@ -94,7 +94,7 @@ urb_called s line v call count some free held h =
     }
 
 pub counted_with : (s : SoFar) (line : ℕ) (said : Statement) (count : Target → ℕ) → may_stand s.scene (keyword_said said) ≡ true → IsAllowed s said
-    → AreCounted s.scene count → AreCounted (scene_with s.scene line said) (counts_behind said (called_target s.scene said) count)
+    → AreCounted s.scene count → AreCounted (scene_with s.scene line said) (counts_after said (called_target s.scene said) count)
 counted_with s line (say.Device name kind) count place allowed h = kept s.scene _ count refl h
 counted_with s line (say.Ep address kind size interval) count place allowed h = kept s.scene _ count refl h
 counted_with s line (say.Bytes which bytes) count place allowed h = kept s.scene _ count refl h
@@ -203,7 +203,7 @@ room_with s r c line (say.OnInterface call device interface) room place allowed 
 
 -- what a line leaves of a draft
 pub draft_with : (s : SoFar) (r c line : ℕ) (count new : Target → ℕ) (find next : List ℕ → Option ℕ) (said : Statement) → IsDraft s.scene r c count find
-    → ((urb : Target) → new urb ≡ counts_behind said (called_target s.scene said) count urb) → ((other : List ℕ) → next other ≡ found_with s.scene said find other)
+    → ((urb : Target) → new urb ≡ counts_after said (called_target s.scene said) count urb) → ((other : List ℕ) → next other ≡ found_with s.scene said find other)
     → may_stand s.scene (keyword_said said) ≡ true → IsAllowed s said
     → IsDraft (scene_with s.scene line said) (r - replies_said said) (c - calls_said said) new next
 draft_with s r c line count new find next said h counted found place allowed =
@@ -214,6 +214,6 @@ draft_with s r c line count new find next said h counted found place allowed =
       urbs = left.urbs;
       replies = left.replies;
       calls = left.calls;
-      rejects = counted_as (scene_with s.scene line said) (counts_behind said (called_target s.scene said) count) new counted (counted_with s line said count place allowed h.rejects);
-      names = λ other. found other ∙ found_behind s line said find allowed h.names other;
+      rejects = counted_as (scene_with s.scene line said) (counts_after said (called_target s.scene said) count) new counted (counted_with s line said count place allowed h.rejects);
+      names = λ other. found other ∙ found_after s line said find allowed h.names other;
     }

@@ -71,20 +71,20 @@ last_number true find name other n new e =
 last_number false find name other n new e = sym (kept_found (find other))
 
 -- URBs are found after a line
-pub found_behind : (s : SoFar) (line : ℕ) (said : Statement) (find : List ℕ → Option ℕ) → IsAllowed s said → FindsUrbs s.scene find
+pub found_after : (s : SoFar) (line : ℕ) (said : Statement) (find : List ℕ → Option ℕ) → IsAllowed s said → FindsUrbs s.scene find
     → (other : List ℕ) → found_with s.scene said find other ≡ urb_number (scene_with s.scene line said) other
-found_behind s line (say.Device name kind) find allowed h other = h other
-found_behind s line (say.Ep address kind size interval) find allowed h other = h other
-found_behind s line (say.Bytes which bytes) find allowed h other = h other
-found_behind s line (say.Port status) find allowed h other = h other
-found_behind s line (say.Answer address items) find allowed h other = h other
-found_behind s line (say.Urb name device address options) find allowed h other =
+found_after s line (say.Device name kind) find allowed h other = h other
+found_after s line (say.Ep address kind size interval) find allowed h other = h other
+found_after s line (say.Bytes which bytes) find allowed h other = h other
+found_after s line (say.Port status) find allowed h other = h other
+found_after s line (say.Answer address items) find allowed h other = h other
+found_after s line (say.Urb name device address options) find allowed h other =
     let new = not-true (is_some (urb_number s.scene name)) (and_parts (not (is_some (urb_number s.scene name))) (are_once options) allowed.new).0 in
     ap (λ o. cond (bytes_eq name other) (Some (length s.scene.urbs)) o) (h other)
     ∙ last_number (bytes_eq name other) (urb_number s.scene) name other (length s.scene.urbs) new refl
     ∙ sym (position_push (λ (u : SceneUrb). bytes_eq u.name other) s.scene.urbs (urb_said s.scene name device address options))
-found_behind s line (say.Thread name) find allowed h other = h other
-found_behind s line (say.Submit urb setup bytes) find allowed h other = h other
-found_behind s line (say.OnUrb call urb) find allowed h other = h other
-found_behind s line (say.Alone call) find allowed h other = h other
-found_behind s line (say.OnInterface call device interface) find allowed h other = h other
+found_after s line (say.Thread name) find allowed h other = h other
+found_after s line (say.Submit urb setup bytes) find allowed h other = h other
+found_after s line (say.OnUrb call urb) find allowed h other = h other
+found_after s line (say.Alone call) find allowed h other = h other
+found_after s line (say.OnInterface call device interface) find allowed h other = h other

@@ -25,10 +25,10 @@ abbrev pub changed : UrbCall → Target → (Target → ℕ) → Target → ℕ
 changed call urb count other = if is_on urb other then next_count call (count urb) else count other
 
 -- the counts after a line that calls this URB, if any
-abbrev pub counts_behind : Statement → Target → (Target → ℕ) → Target → ℕ
-counts_behind (say.Thread name) urb count other = 0
-counts_behind (say.OnUrb call name) urb count other = changed call urb count other
-counts_behind _ urb count other = count other
+abbrev pub counts_after : Statement → Target → (Target → ℕ) → Target → ℕ
+counts_after (say.Thread name) urb count other = 0
+counts_after (say.OnUrb call name) urb count other = changed call urb count other
+counts_after _ urb count other = count other
 
 -- some calls never withdraw more than they raise
 abbrev pub AreFair : List Call → Type 0

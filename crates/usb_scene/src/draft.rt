@@ -11,8 +11,8 @@ use crate::growth::add;
 use crate::names::Names;
 use crate::rejects::{Rejects, raises, withdraws};
 use crate::room::{
-    are_low, calls_behind, carries_within, is_buffer, is_interface, is_low, most_of, names_behind,
-    rejects_behind, replies_behind, room_behind,
+    are_low, calls_after, carries_within, is_buffer, is_interface, is_low, most_of, names_after,
+    rejects_behind, replies_after, room_behind,
 };
 use crate::rules::{
     are_once, device_number, driven_number, fits_device, interface_target, is_new_thread,
@@ -56,7 +56,7 @@ impl Model for Draft {
 }
 
 // Whether the device whose lines are being read has its `port` line, after a line.
-fn port_behind(has_port: bool, statement: &Statement) -> bool
+fn port_after(has_port: bool, statement: &Statement) -> bool
     ensures { result ≡ port_with has_port statement.now }
 {
     match statement {
@@ -302,11 +302,11 @@ impl Draft {
             rejects,
             names,
         } = self;
-        let has_port = port_behind(has_port, &statement);
-        let more_replies = replies_behind(&statement, more_replies);
-        let more_calls = calls_behind(&statement, more_calls);
+        let has_port = port_after(has_port, &statement);
+        let more_replies = replies_after(&statement, more_replies);
+        let more_calls = calls_after(&statement, more_calls);
         let rejects = rejects_behind(alloc, rejects, &statement, target)?;
-        let names = names_behind(alloc, &scene, names, &statement)?;
+        let names = names_after(alloc, &scene, names, &statement)?;
         add(&mut scene, alloc, line, statement, target)?;
         Ok(Draft {
             scene,

@@ -4,7 +4,7 @@ ghost use Rattle.std.specs.Prelude.{◌≡◌, ℕ, List, ◌-◌, ◌≤◌, �
 ghost use Rattle.usb_scene.specs.WellFormed.{replies_of};
 ghost use Rattle.usb_scene.specs.Rules.{most_of, is_low, len_in, again_in, given_len, carries_within};
 ghost use Rattle.usb_scene.specs.Growth.{replies_said, calls_said};
-ghost use Rattle.usb_scene.specs.Counts.{count_in, counts_behind};
+ghost use Rattle.usb_scene.specs.Counts.{count_in, counts_after};
 ghost use Rattle.usb_scene.specs.Named.{number_in, found_with};
 ghost use Rattle.usb_scene.specs.declared.scene.Target.{Target};
 
@@ -40,7 +40,7 @@ pub fn room_behind(items: &[Item], room: u32) -> Option<u32>
 }
 
 /// How many replies the items after a line may still give.
-pub fn replies_behind(statement: &Statement, room: u32) -> u32
+pub fn replies_after(statement: &Statement, room: u32) -> u32
     ensures { result ≡ room - replies_said statement.now }
 {
     match statement {
@@ -50,7 +50,7 @@ pub fn replies_behind(statement: &Statement, room: u32) -> u32
 }
 
 /// How many calls may still come after a line.
-pub fn calls_behind(statement: &Statement, room: u32) -> u32
+pub fn calls_after(statement: &Statement, room: u32) -> u32
     ensures { result ≡ room - calls_said statement.now }
 {
     match statement {
@@ -128,7 +128,7 @@ pub fn rejects_behind(
     urb: Target,
 ) -> Result<Rejects, Memory>
     requires few { (u : Target) → count_in rejects.counts u ≤ most_rejects }
-    ensures { IfOk result (λ next. (u : Target) → count_in next.counts u ≡ counts_behind statement.now urb (count_in rejects.counts) u) }
+    ensures { IfOk result (λ next. (u : Target) → count_in next.counts u ≡ counts_after statement.now urb (count_in rejects.counts) u) }
 {
     match statement {
         Statement::Thread { .. } => Ok(Rejects::none(alloc)),
@@ -142,7 +142,7 @@ pub fn rejects_behind(
 }
 
 /// The names after a line.
-pub fn names_behind(
+pub fn names_after(
     alloc: Global,
     scene: &Scene,
     names: Names,

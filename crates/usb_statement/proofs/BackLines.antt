@@ -32,7 +32,7 @@ use Rattle.usb_statement.specs.declared.keyword.InterfaceWord.TheVariants as cal
 use Rattle.usb_statement.specs.declared.interface_call.InterfaceCall.{InterfaceCall}
 use Rattle.usb_statement.specs.declared.interface_call.InterfaceCall.TheVariants as made
 use Rattle.usb_statement.proofs.BackWords.{back_name, back_device_kind, back_end, back_kind, back_items, back_options, back_urb, back_kept, back_sent}
-use Rattle.usb_statement.proofs.Setups.{back_first, back_behind}
+use Rattle.usb_statement.proofs.Setups.{back_first, back_after}
 
 back_device_bytes : (which : DeviceBytes) → keyword_of (keyword_text (word.Bytes which)) ≡ Some (word.Bytes which)
 back_device_bytes Desc = refl
@@ -127,7 +127,7 @@ back_words (say.Thread name) h = ap (option_map (λ n. say.Thread n)) (back_name
 back_words (say.Submit urb setup bytes) h =
     let texts = setup_words setup ++ sent_words bytes in
     ap (λ o. option_and_then (λ u. option_and_then (λ sent. Some (say.Submit u (setup_first texts) sent)) (sent_of (behind_setup texts))) o) (back_urb urb h.0)
-    ∙ ap (λ t. option_and_then (λ sent. Some (say.Submit urb (setup_first texts) sent)) (sent_of t)) (back_behind setup bytes h.1 h.2)
+    ∙ ap (λ t. option_and_then (λ sent. Some (say.Submit urb (setup_first texts) sent)) (sent_of t)) (back_after setup bytes h.1 h.2)
     ∙ ap (λ o. option_and_then (λ sent. Some (say.Submit urb (setup_first texts) sent)) o) (back_sent bytes h.2)
     ∙ ap (λ packet. Some (say.Submit urb packet bytes)) (back_first setup bytes h.1 h.2)
 back_words (say.OnUrb call urb) h = ap (option_map (λ u. say.OnUrb call u)) (back_urb urb h)

@@ -61,8 +61,8 @@ back_first None (Some bytes) h g = no_setup bytes g.0
 back_first (Some packet) bytes h g = back_setup packet h
 
 -- and what is sent is after it
-pub back_behind : (setup bytes : Option (List ℕ)) → IsSetup setup → IsSent bytes → behind_setup (setup_words setup ++ sent_words bytes) ≡ sent_words bytes
-back_behind None None h g = refl
-back_behind None (Some bytes) h g = ap (λ (o : Option (List ℕ)). cond (is_some o) [] (hex_text bytes ∷ [])) (no_setup bytes g.0)
-back_behind (Some packet) bytes h g =
+pub back_after : (setup bytes : Option (List ℕ)) → IsSetup setup → IsSent bytes → behind_setup (setup_words setup ++ sent_words bytes) ≡ sent_words bytes
+back_after None None h g = refl
+back_after None (Some bytes) h g = ap (λ (o : Option (List ℕ)). cond (is_some o) [] (hex_text bytes ∷ [])) (no_setup bytes g.0)
+back_after (Some packet) bytes h g =
     ap (λ (o : Option (List ℕ)). cond (is_some o) (sent_words bytes) ((codes "setup:" ++ flat_map hex_pair packet) ∷ sent_words bytes)) (back_setup packet h)

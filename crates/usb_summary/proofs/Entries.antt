@@ -21,14 +21,14 @@ use Rattle.usb_machine.specs.Calls.{entry, plain_entry, submit_entries, marks_of
 use Rattle.usb_generate.specs.Summary.{is_accepted, is_refused, is_given}
 use Rattle.usb_scene.specs.declared.scene.Scene.{Scene}
 use Rattle.usb_scene.specs.declared.scene.Call.{Call}
-use Rattle.usb_line.specs.declared.made.HostCall.{HostCall}
-use Rattle.usb_line.specs.declared.made.HostCall.TheVariants as host_call
-use Rattle.usb_line.specs.declared.made.CallAnswer.{CallAnswer}
-use Rattle.usb_line.specs.declared.made.CallAnswer.TheVariants as told
-use Rattle.usb_line.specs.declared.made.Outcome.{Outcome}
-use Rattle.usb_line.specs.declared.made.Outcome.TheVariants as outcome
-use Rattle.usb_line.specs.Prepared.{main_pass}
-use Rattle.usb_line.specs.Run.{urbs_of, host_call_entries, rest_entry, handled_by, given_entries, kills_of, seen_quiet, closing}
+use Rattle.usb_trace.specs.declared.rows.HostCall.{HostCall}
+use Rattle.usb_trace.specs.declared.rows.HostCall.TheVariants as host_call
+use Rattle.usb_trace.specs.declared.rows.CallAnswer.{CallAnswer}
+use Rattle.usb_trace.specs.declared.rows.CallAnswer.TheVariants as told
+use Rattle.usb_trace.specs.declared.rows.Outcome.{Outcome}
+use Rattle.usb_trace.specs.declared.rows.Outcome.TheVariants as outcome
+use Rattle.usb_trace.specs.Plan.{main_pass}
+use Rattle.usb_trace.specs.Run.{urbs_of, host_call_entries, rest_entry, handled_by, given_entries, kills_of, seen_quiet, closing}
 use Rattle.usb_summary.specs.Counts.{again_code, is_fault, is_some_of}
 use Rattle.usb_summary.proofs.Counting.{bit, count-cons, count-append}
 

@@ -20,16 +20,16 @@ use Rattle.usb_scene.specs.declared.operation.Operation.{Operation}
 use Rattle.usb_scene.specs.declared.operation.Operation.TheVariants as op
 use Rattle.usb_scene.specs.Operation.{operation_of}
 use Rattle.usb_scene.specs.WellFormed.{is_raw, HasDrivers, IsBuilt, IsCall}
-use Rattle.usb_line.specs.declared.made.CallAnswer.{CallAnswer}
-use Rattle.usb_line.specs.declared.made.CallAnswer.TheVariants as told
-use Rattle.usb_line.specs.declared.made.CallMade.{CallMade}
-use Rattle.usb_line.specs.declared.made.GivebackRow.{GivebackRow}
-use Rattle.usb_line.specs.declared.made.HostCall.{HostCall}
-use Rattle.usb_line.specs.declared.made.HostCall.TheVariants as host_call
-use Rattle.usb_line.specs.Prepared.{DriverQuestion, question_at, host_call_on, host_call_alone, host_call_by, submit_fault, fresh, pass_of}
-use Rattle.usb_line.specs.Run.{CallRecord, Giveback, IsAnswered, IsMade, host_call_entries, call_entries, submit_of, moved_in, resent, handled_by, given_entries, handler_entries, giveback_entries}
-use Rattle.usb_line.specs.GivebackRow.{giveback_row}
-use Rattle.usb_line.specs.Outcome.{made_of}
+use Rattle.usb_trace.specs.declared.rows.CallAnswer.{CallAnswer}
+use Rattle.usb_trace.specs.declared.rows.CallAnswer.TheVariants as told
+use Rattle.usb_trace.specs.declared.rows.CallMade.{CallMade}
+use Rattle.usb_trace.specs.declared.rows.GivebackRow.{GivebackRow}
+use Rattle.usb_trace.specs.declared.rows.HostCall.{HostCall}
+use Rattle.usb_trace.specs.declared.rows.HostCall.TheVariants as host_call
+use Rattle.usb_trace.specs.Plan.{DriverQuestion, question_at, host_call_on, host_call_alone, host_call_by, submit_fault, fresh, pass_of}
+use Rattle.usb_trace.specs.Run.{CallRecord, Giveback, IsAnswered, IsMade, host_call_entries, call_entries, submit_of, moved_in, resent, handled_by, given_entries, handler_entries, giveback_entries}
+use Rattle.usb_trace.specs.GivebackRow.{giveback_row}
+use Rattle.usb_trace.specs.Rows.{made_of}
 use Rattle.usb_summary.specs.Counts.{code_in, submit_in, submit_code, again_code, is_some_of}
 use Rattle.usb_summary.proofs.Counting.{bit, count-cons}
 use Rattle.usb_summary.proofs.Undriven.{are_raw, none_asked}

@@ -20,13 +20,13 @@ use Rattle.usb_scene.specs.WellFormed.{IsCall, IsWellFormed}
 use Rattle.usb_prepare.specs.Ends.{device_ends, attached_as, shapes_of}
 use Rattle.usb_prepare.specs.Layout.{home}
 use Rattle.usb_prepare.proofs.Facts.{scripted_home}
-use Rattle.usb_line.specs.declared.made.CallMade.{CallMade}
-use Rattle.usb_line.specs.declared.made.GivebackRow.{GivebackRow}
-use Rattle.usb_line.specs.Prepared.{submit_fault, fresh, pass_of}
-use Rattle.usb_line.specs.Run.{CallRecord, Giveback, call_entries, moved_in, is_aside, done_by, closing, IsFramed, IsRun}
+use Rattle.usb_trace.specs.declared.rows.CallMade.{CallMade}
+use Rattle.usb_trace.specs.declared.rows.GivebackRow.{GivebackRow}
+use Rattle.usb_trace.specs.Plan.{submit_fault, fresh, pass_of}
+use Rattle.usb_trace.specs.Run.{CallRecord, Giveback, call_entries, moved_in, is_aside, done_by, closing, IsFramed, IsRun}
 use Rattle.usb_line.specs.Line.{Progress, IsLineRun}
-use Rattle.usb_line.specs.GivebackRow.{giveback_row}
-use Rattle.usb_line.specs.Outcome.{made_of}
+use Rattle.usb_trace.specs.GivebackRow.{giveback_row}
+use Rattle.usb_trace.specs.Rows.{made_of}
 use Rattle.usb_line.proofs.Lines.{line_is_run}
 use Rattle.usb_generate.specs.Generator.{devices, urbs, generated}
 use Rattle.usb_generate.specs.Summary.{is_accepted, is_refused, is_given, bytes_in, summary_of}

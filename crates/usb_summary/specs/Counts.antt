@@ -6,12 +6,12 @@ use Rattle.usb_machine.specs.State.{is_zero}
 use Rattle.usb_generate.specs.Summary.{bytes_in}
 use Rattle.usb_scene.specs.declared.operation.Operation.{Operation}
 use Rattle.usb_scene.specs.declared.operation.Operation.TheVariants as op
-use Rattle.usb_line.specs.declared.made.CallMade.{CallMade}
-use Rattle.usb_line.specs.declared.made.CallAnswer.{CallAnswer}
-use Rattle.usb_line.specs.declared.made.CallAnswer.TheVariants as told
-use Rattle.usb_line.specs.declared.made.GivebackRow.{GivebackRow}
-use Rattle.usb_line.specs.declared.made.Outcome.{Outcome}
-use Rattle.usb_line.specs.declared.made.Outcome.TheVariants as outcome
+use Rattle.usb_trace.specs.declared.rows.CallMade.{CallMade}
+use Rattle.usb_trace.specs.declared.rows.CallAnswer.{CallAnswer}
+use Rattle.usb_trace.specs.declared.rows.CallAnswer.TheVariants as told
+use Rattle.usb_trace.specs.declared.rows.GivebackRow.{GivebackRow}
+use Rattle.usb_trace.specs.declared.rows.Outcome.{Outcome}
+use Rattle.usb_trace.specs.declared.rows.Outcome.TheVariants as outcome
 use Rattle.usb_summary.specs.declared.counts.Counts.{Counts}
 
 abbrev pub code_in : CallAnswer → Option Code

@@ -2,7 +2,7 @@
 use Rattle.std.specs.Prelude.{ℕ, ◌≡◌, List, ◌++◌, map}
 use Rattle.usb_generate.specs.Generator.{generated}
 use Rattle.usb_generate.specs.Summary.{summary_of}
-use Rattle.usb_line.specs.Run.{Giveback, IsRun, moved_in}
+use Rattle.usb_trace.specs.Run.{Giveback, IsRun, moved_in}
 use Rattle.usb_line.specs.Line.{Progress, IsLineRun}
 
 -- the line of a number was added: what the history of its scene's run in line order counts. That run is a run of the scene

@@ -2,10 +2,10 @@
 ghost use Rattle.std.specs.Prelude.{◌≡◌, map};
 ghost use Rattle.usb_machine.specs.State.{is_zero};
 ghost use Rattle.usb_generate.specs.Summary.{bytes_in};
-ghost use Rattle.usb_line.specs.declared.made.GivebackRow.{GivebackRow};
+ghost use Rattle.usb_trace.specs.declared.rows.GivebackRow.{GivebackRow};
 ghost use Rattle.usb_summary.specs.Counts.{submit_code, again_code, is_fault, is_some_of, submits_in, counts_of};
 
-use usb_line::{CallAnswer, CallMade, GivebackRow, LineOutcome, Outcome};
+use usb_trace::{CallAnswer, CallMade, GivebackRow, RunOutcome, Outcome};
 use usb_scene::Operation;
 use usb_types::Code;
 
@@ -89,7 +89,7 @@ fn bytes_moved(given: &[GivebackRow]) -> u64
 }
 
 /// The counts of a run's calls and givebacks.
-pub(crate) fn count(outcome: &LineOutcome) -> Counts
+pub(crate) fn count(outcome: &RunOutcome) -> Counts
     ensures { result ≡ counts_of outcome.now.made outcome.now.given }
 {
     let made = outcome.made.items();

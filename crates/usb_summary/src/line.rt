@@ -8,14 +8,15 @@ ghost use Rattle.usb_summary.specs.Summed.{IsSummed};
 use crate::counts::{Counts, count};
 use std::alloc::Global;
 use usb_generate::generate;
-use usb_line::{LineOutcome, run_line};
+use usb_line::run_line;
+use usb_trace::RunOutcome;
 use usb_prepare::prepare;
 use usb_scene::Scene;
 use usb_text::push_number;
 use usb_types::{Buf, Memory};
 
 // The run of a scene in line order.
-fn run(alloc: Global, scene: &Scene) -> Result<LineOutcome, Memory>
+fn run(alloc: Global, scene: &Scene) -> Result<RunOutcome, Memory>
     requires { IsWellFormed scene.now }
     ensures { IfOk result (IsOutcome scene.now) }
 {

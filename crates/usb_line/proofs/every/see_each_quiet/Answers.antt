@@ -4,10 +4,10 @@ use Rattle.usb_machine.specs.declared.event.Event.TheVariants.{Reject}
 use Rattle.usb_machine.specs.declared.entry.Entry.{Entry}
 use Rattle.usb_machine.specs.declared.state.UrbState.{UrbState}
 use Rattle.usb_machine.specs.Calls.{plain_entry}
-use Rattle.usb_line.specs.Prepared.{machine_of}
+use Rattle.usb_trace.specs.Plan.{machine_of}
 use Rattle.usb_prepare.specs.Below.{below}
-use Rattle.usb_line.specs.Run.{seen_quiet}
-use Rattle.usb_line.proofs.Entries.{own_state}
+use Rattle.usb_trace.specs.Run.{seen_quiet}
+use Rattle.usb_trace.proofs.Entries.{own_state}
 use Rattle.usb_line.proofs.InTurn.{as_many, seen_above, held_above, seen_longer}
 use Rattle.usb_line.proofs.every.see_each_quiet.Goals as goal
 

@@ -5,9 +5,9 @@ use Rattle.usb_machine.specs.History.{state_of}
 use Rattle.usb_machine.specs.Parts.{part_of, held_of}
 use Rattle.usb_machine.specs.Plain.{Stands}
 use Rattle.usb_scene.specs.declared.scene.Scene.{Scene}
-use Rattle.usb_line.specs.Prepared.{machine_of}
+use Rattle.usb_trace.specs.Plan.{machine_of}
 use Rattle.usb_prepare.specs.Below.{below}
-use Rattle.usb_line.specs.Run.{seen_quiet}
+use Rattle.usb_trace.specs.Run.{seen_quiet}
 use Rattle.usb_line.specs.Steps.{AsMany, passes_of}
 use Rattle.usb_line.proofs.every.see_each_quiet.Given as goal
 

@@ -5,7 +5,7 @@ use Rattle.usb_machine.specs.declared.event.Event.TheVariants.{Unflag}
 use Rattle.usb_machine.specs.declared.entry.Entry.{Entry}
 use Rattle.usb_machine.specs.declared.state.UrbState.{UrbState}
 use Rattle.usb_machine.specs.Calls.{plain_entry}
-use Rattle.usb_line.specs.Prepared.{machine_of}
+use Rattle.usb_trace.specs.Plan.{machine_of}
 use Rattle.usb_line.proofs.Each.{each_above}
 use Rattle.usb_line.proofs.InTurn.{as_many, each_longer}
 use Rattle.usb_line.proofs.every.unflag_each.Goals as goal

@@ -7,7 +7,7 @@ use Rattle.usb_machine.specs.History.{state_of}
 use Rattle.usb_machine.specs.Plain.{Stands}
 use Rattle.usb_machine.specs.Calls.{plain_entry}
 use Rattle.usb_scene.specs.declared.scene.Scene.{Scene}
-use Rattle.usb_line.specs.Prepared.{machine_of}
+use Rattle.usb_trace.specs.Plan.{machine_of}
 use Rattle.usb_prepare.specs.Below.{below}
 use Rattle.usb_line.specs.Steps.{AsMany}
 use Rattle.usb_line.proofs.every.unflag_each.Given as goal

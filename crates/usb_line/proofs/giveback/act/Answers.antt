@@ -9,13 +9,13 @@ use Rattle.usb_machine.specs.History.{state_of}
 use Rattle.usb_machine.specs.Plain.{Stands}
 use Rattle.usb_prepare.specs.Ends.{shape_at}
 use Rattle.usb_prepare.specs.Layout.{home}
-use Rattle.usb_line.specs.declared.made.Outcome.{Outcome}
-use Rattle.usb_line.specs.declared.made.Outcome.TheVariants as outcome
-use Rattle.usb_line.specs.Prepared.{machine_of, DriverQuestion, question_at}
-use Rattle.usb_line.specs.Run.{moved_in, resent, rest_entry, asked_entries, handled_by}
+use Rattle.usb_trace.specs.declared.rows.Outcome.{Outcome}
+use Rattle.usb_trace.specs.declared.rows.Outcome.TheVariants as outcome
+use Rattle.usb_trace.specs.Plan.{machine_of, DriverQuestion, question_at}
+use Rattle.usb_trace.specs.Run.{moved_in, resent, rest_entry, asked_entries, handled_by}
 use Rattle.usb_line.specs.Line.{submit_answer}
 use Rattle.usb_line.specs.Back.{CanPose, CanPoseAny, IsGated, IsPosedBy, given_after}
-use Rattle.usb_line.proofs.Entries.{other_state}
+use Rattle.usb_trace.proofs.Entries.{other_state}
 use Rattle.usb_line.proofs.Stepping.{enters, number_back, rest, acted, again_says, rests, asks}
 use Rattle.usb_line.proofs.giveback.act.Goals as goal
 

@@ -4,7 +4,7 @@ use Rattle.usb_machine.specs.declared.event.Event.TheVariants.{Finish}
 use Rattle.usb_machine.specs.declared.event.Answer.TheVariants.{Truth}
 use Rattle.usb_machine.specs.Plain.{Stands}
 use Rattle.usb_machine.specs.Calls.{entry}
-use Rattle.usb_line.specs.Prepared.{machine_of}
+use Rattle.usb_trace.specs.Plan.{machine_of}
 use Rattle.usb_line.specs.Back.{EndsBy, finish_entries}
 use Rattle.usb_line.proofs.Stepping.{enters, finish_first}
 use Rattle.usb_line.proofs.giveback.finish.Goals as goal

@@ -3,7 +3,7 @@ use Rattle.usb_machine.specs.declared.event.Event.TheVariants.{Give}
 use Rattle.usb_machine.specs.declared.entry.Entry.{Entry}
 use Rattle.usb_machine.specs.History.{state_of}
 use Rattle.usb_machine.specs.Plain.{Stands}
-use Rattle.usb_line.specs.Prepared.{machine_of}
+use Rattle.usb_trace.specs.Plan.{machine_of}
 use Rattle.usb_line.specs.Steps.{told_code}
 use Rattle.usb_line.proofs.Stepping.{finished, give, enters, split_given, give_next, finish_idle}
 use Rattle.usb_line.proofs.giveback.give.Goals as goal

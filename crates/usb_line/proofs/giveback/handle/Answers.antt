@@ -2,7 +2,7 @@ use Rattle.std.proofs.Common.{◌++◌, List, refl, sym, subst}
 use Rattle.usb_machine.specs.declared.event.Event.TheVariants.{End}
 use Rattle.usb_machine.specs.declared.entry.Entry.{Entry}
 use Rattle.usb_machine.specs.Plain.{Stands}
-use Rattle.usb_line.specs.Prepared.{machine_of}
+use Rattle.usb_trace.specs.Plan.{machine_of}
 use Rattle.usb_line.specs.Back.{given_after, acted_entries}
 use Rattle.usb_line.proofs.Givebacks.{whole}
 use Rattle.usb_line.proofs.Stepping.{enters, end, end_next}

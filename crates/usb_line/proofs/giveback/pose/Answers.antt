@@ -10,8 +10,8 @@ use Rattle.std.specs.Prelude.{slice_get}
 use Rattle.usb_machine.specs.Plain.{Stands}
 use Rattle.usb_prepare.specs.Ends.{shape_at}
 use Rattle.usb_prepare.specs.Layout.{home}
-use Rattle.usb_line.specs.Prepared.{machine_of}
-use Rattle.usb_line.specs.Run.{submit_of}
+use Rattle.usb_trace.specs.Plan.{machine_of}
+use Rattle.usb_trace.specs.Run.{submit_of}
 use Rattle.usb_line.specs.Line.{submit_answer}
 use Rattle.usb_line.proofs.Lookups.{none_of}
 use Rattle.usb_line.proofs.giveback.pose.Goals as goal

@@ -3,10 +3,10 @@ use Rattle.usb_types.specs.declared.errno.Code.{Code}
 use Rattle.usb_types.specs.declared.errno.Code.TheVariants.{Zero, Fault}
 use Rattle.usb_machine.specs.declared.event.Event.TheVariants.{Submit, Link, Rest}
 use Rattle.usb_machine.specs.Plain.{Stands}
-use Rattle.usb_line.specs.declared.made.Outcome.{Outcome}
-use Rattle.usb_line.specs.declared.made.Outcome.TheVariants as outcome
-use Rattle.usb_line.specs.Prepared.{machine_of, question_at}
-use Rattle.usb_line.specs.Run.{moved_in, resent, handled_by}
+use Rattle.usb_trace.specs.declared.rows.Outcome.{Outcome}
+use Rattle.usb_trace.specs.declared.rows.Outcome.TheVariants as outcome
+use Rattle.usb_trace.specs.Plan.{machine_of, question_at}
+use Rattle.usb_trace.specs.Run.{moved_in, resent, handled_by}
 use Rattle.usb_line.specs.Steps.{told_code}
 use Rattle.usb_line.specs.Back.{given_after}
 use Rattle.usb_line.proofs.Stepping.{enters, two_more, number_again, submit, rest, link, acted, submit_next, is_zero_code}

@@ -1,7 +1,7 @@
 use Rattle.std.proofs.Common.{◌≡◌, ◌<◌, ◌++◌, List, length, map, take, get_or, sym, ap, ◌∙◌, subst}
 use Rattle.usb_scene.specs.declared.scene.SceneThread.{SceneThread}
 use Rattle.usb_scene.specs.declared.scene.Call.{Call}
-use Rattle.usb_line.specs.Prepared.{calls_from}
+use Rattle.usb_trace.specs.Plan.{calls_from}
 use Rattle.usb_line.proofs.Threads.{calls_longer}
 use Rattle.usb_line.proofs.line.make_calls.Goals as goal
 

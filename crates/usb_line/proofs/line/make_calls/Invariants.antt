@@ -1,5 +1,5 @@
 use Rattle.std.proofs.Common.{take}
-use Rattle.usb_line.specs.Prepared.{calls_from}
+use Rattle.usb_trace.specs.Plan.{calls_from}
 use Rattle.usb_line.specs.Calls.{IsUnderway}
 use Rattle.usb_line.proofs.line.make_calls.Given as goal
 

@@ -1,9 +1,10 @@
 use Rattle.std.proofs.Common.{refl, map, sym, ap, ◌∙◌}
+use Rattle.std.proofs.lemmas.Result.{IfOk-weaker}
 use Rattle.usb_bind.specs.Board.{BoardValue}
 use Rattle.usb_line.specs.Line.{begun, start}
 use Rattle.usb_line.specs.Calls.{IsCalled}
-use Rattle.usb_line.specs.Outcome.{made_of, outcome_of}
-use Rattle.usb_line.proofs.Telling.{ends_told, same_outcome}
+use Rattle.usb_line.specs.Outcome.{IsOutcome}
+use Rattle.usb_trace.specs.Rows.{made_of}
 use Rattle.usb_line.proofs.line.run_line.Goals as goal
 
 pub submit_reads-requires : goal.submit_reads-requires
@@ -26,11 +27,5 @@ returns c =
     let s = c.args.scene.now in let u = c.in_ok-make_calls.ensures in let opened = c.in_ok-run.ensures in
     let called : IsCalled s u.far c.make_calls.new.run = record { good = c.requires.good; in_line = u.in_line; all = u.all; shows = u.shows } in
     let closed = c.in_ok-close.ensures s u.far called c.main_pass_of-main.ensures in
-    let made = c.made.view_is ∙ (u.told ∙ ap (map made_of) (sym closed.same)) in
-    let told = c.in_ok-told.ensures s closed.far.rounds closed.shows.cores in
-    let ends = c.in_ok-received.ensures ∙ ends_told s closed.far c.close.new.self closed.shows in
-    record {
-      far = closed.far;
-      line = closed.line;
-      is = same_outcome _ (outcome_of s closed.far.call_records closed.far.rounds) opened.found opened.board made closed.shows.came_back told ends;
-    }
+    let made = u.told ∙ ap (map made_of) (sym closed.same) in
+    IfOk-weaker c.leaves.result _ (IsOutcome s) (λ o left. record { far = closed.far; line = closed.line; is = left s closed.far opened.found opened.board made closed.shows }) c.leaves.ensures

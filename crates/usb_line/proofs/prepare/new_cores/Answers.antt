@@ -1,6 +1,6 @@
 use Rattle.std.proofs.Common.{get_or, subst}
 use Rattle.usb_line.specs.Opened.{origin_in, IsNewCore}
-use Rattle.usb_line.proofs.Owners.{no_bound}
+use Rattle.usb_trace.proofs.Owners.{no_bound}
 use Rattle.usb_line.proofs.Opening.{lent, cores_longer}
 use Rattle.usb_line.proofs.prepare.new_cores.Goals as goal
 

@@ -8,9 +8,9 @@ use Rattle.usb_machine.specs.Parts.{part_of, keeps}
 use Rattle.usb_machine.specs.Plain.{Stands}
 use Rattle.usb_machine.specs.Calls.{entry, plain_entry}
 use Rattle.usb_machine.proofs.Steps.{part_own}
-use Rattle.usb_line.specs.Prepared.{machine_of}
+use Rattle.usb_trace.specs.Plan.{machine_of}
 use Rattle.usb_line.specs.Steps.{told_number}
-use Rattle.usb_line.proofs.Entries.{own_state}
+use Rattle.usb_trace.proofs.Entries.{own_state}
 use Rattle.usb_line.proofs.MayFollow.{claim_follows}
 use Rattle.usb_line.proofs.Held.{quiet_keeps}
 use Rattle.usb_line.proofs.steps.claim.Goals as goal

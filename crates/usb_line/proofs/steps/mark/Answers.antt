@@ -5,7 +5,7 @@ use Rattle.usb_machine.specs.State.{unlinking}
 use Rattle.usb_machine.specs.History.{state_of}
 use Rattle.usb_machine.specs.Plain.{Stands}
 use Rattle.usb_machine.specs.Calls.{mark_entry}
-use Rattle.usb_line.specs.Prepared.{machine_of}
+use Rattle.usb_trace.specs.Plan.{machine_of}
 use Rattle.usb_line.specs.Steps.{told_code}
 use Rattle.usb_line.proofs.MayFollow.{mark_follows}
 use Rattle.usb_line.proofs.steps.mark.Goals as goal

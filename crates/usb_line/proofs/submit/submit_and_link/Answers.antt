@@ -8,7 +8,7 @@ use Rattle.usb_machine.specs.State.{refusal}
 use Rattle.usb_machine.specs.History.{state_of}
 use Rattle.usb_machine.specs.Plain.{Stands}
 use Rattle.usb_machine.specs.Calls.{entry, plain_entry, submit_entries}
-use Rattle.usb_line.specs.Prepared.{machine_of}
+use Rattle.usb_trace.specs.Plan.{machine_of}
 use Rattle.usb_line.specs.Steps.{told_code}
 use Rattle.usb_line.proofs.MayFollow.{submit_follows, link_follows, submit_owes}
 use Rattle.usb_line.proofs.Stepping.{enters, two_more, is_zero_code}

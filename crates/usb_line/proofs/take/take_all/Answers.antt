@@ -1,6 +1,6 @@
 use Rattle.std.proofs.Common.{◌++◌, refl, sym, ◌∙◌, subst, append-nil, add-one}
 use Rattle.usb_machine.specs.Plain.{Stands}
-use Rattle.usb_line.specs.Prepared.{machine_of}
+use Rattle.usb_trace.specs.Plan.{machine_of}
 use Rattle.usb_line.specs.Line.{takes_below}
 use Rattle.usb_line.proofs.Taking.{taken_next}
 use Rattle.usb_line.proofs.take.take_all.Goals as goal

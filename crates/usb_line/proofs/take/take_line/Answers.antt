@@ -1,7 +1,7 @@
 use Rattle.std.proofs.Common.{◌≡◌, ◌<◌, ◌++◌, length, refl, ◌∙◌, subst, arith, None}
 use Rattle.usb_machine.specs.declared.event.Answer.TheVariants.{Urb}
 use Rattle.usb_machine.specs.History.{line_of}
-use Rattle.usb_line.specs.Prepared.{machine_of}
+use Rattle.usb_trace.specs.Plan.{machine_of}
 use Rattle.usb_line.specs.Line.{takes}
 use Rattle.usb_line.proofs.Taking.{HasTaken, taken_none, next_taken, taken_more, taken_all}
 use Rattle.usb_line.proofs.take.take_line.Goals as goal

@@ -1,7 +1,7 @@
 use Rattle.std.proofs.Common.{◌≡◌, arith, sym, ap, ◌∙◌, Some, subst, length}
 use Rattle.std.specs.Prelude.{slice_get}
 use Rattle.usb_machine.specs.History.{state_of, pending_of}
-use Rattle.usb_line.specs.Prepared.{machine_of}
+use Rattle.usb_trace.specs.Plan.{machine_of}
 use Rattle.usb_line.specs.Line.{is_unlinked}
 use Rattle.usb_line.proofs.Scanning.{NoneBefore, pending_known, none_more, first_passes, none_passes}
 use Rattle.usb_line.proofs.unlinked.marked_at.Goals as goal

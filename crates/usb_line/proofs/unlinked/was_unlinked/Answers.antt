@@ -1,7 +1,7 @@
 use Rattle.std.proofs.Common.{ap, ◌∙◌}
 use Rattle.std.specs.Prelude.{is_some}
 use Rattle.usb_machine.specs.History.{state_of}
-use Rattle.usb_line.specs.Prepared.{machine_of}
+use Rattle.usb_trace.specs.Plan.{machine_of}
 use Rattle.usb_line.proofs.Scanning.{unlinked_why}
 use Rattle.usb_line.proofs.unlinked.was_unlinked.Goals as goal
 

@@ -1,5 +1,5 @@
 use Rattle.std.proofs.Common.{◌<◌, ◌^◌, length, ap, subst, sym, arith}
-use Rattle.usb_line.specs.declared.line.LineOutcome.{LineOutcome}
+use Rattle.usb_trace.specs.declared.rows.RunOutcome.{RunOutcome}
 use Rattle.usb_line.proofs.Lines.{line_is_run}
 use Rattle.usb_report.specs.Report.{text_of}
 use Rattle.usb_run.proofs.Devices.{few_found}
@@ -7,7 +7,7 @@ use Rattle.usb_run.proofs.top.serial.Goals as goal
 
 pub push_report-requires : goal.push_report-requires
 push_report-requires c = record {
-  devices = subst (λ (o : LineOutcome). length o.found < 2 ^ 32) (sym c.in_ok-outcome.ensures.is) (few_found c.args.scene.now c.requires);
+  devices = subst (λ (o : RunOutcome). length o.found < 2 ^ 32) (sym c.in_ok-outcome.ensures.is) (few_found c.args.scene.now c.requires);
   threads = (let few = c.requires.few_threads in omega arith);
 }
 

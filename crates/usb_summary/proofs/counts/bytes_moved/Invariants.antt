@@ -1,6 +1,6 @@
 use Rattle.std.proofs.Common.{◌≡◌, ◌-◌, ◌^◌, min, take}
 use Rattle.std.specs.List.{sum_by}
-use Rattle.usb_line.specs.declared.made.GivebackRow.{GivebackRow}
+use Rattle.usb_trace.specs.declared.rows.GivebackRow.{GivebackRow}
 use Rattle.usb_summary.proofs.counts.bytes_moved.Given as goal
 
 abbrev pub invariant-loop-g : goal.invariant-loop-g

@@ -1,6 +1,6 @@
 use Rattle.std.proofs.Common.{refl, arith}
-use Rattle.usb_line.specs.declared.made.HostCall.TheVariants as host_call
-use Rattle.usb_line.specs.declared.made.CallAnswer.TheVariants as told
+use Rattle.usb_trace.specs.declared.rows.HostCall.TheVariants as host_call
+use Rattle.usb_trace.specs.declared.rows.CallAnswer.TheVariants as told
 use Rattle.usb_line.proofs.Calling.{there, is_there, near_plain, few, made_now}
 use Rattle.usb_line.proofs.run.LineRun.block.Goals as goal
 

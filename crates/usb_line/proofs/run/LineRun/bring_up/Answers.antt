@@ -1,6 +1,6 @@
 use Rattle.std.proofs.Common.{◌<◌, true, ◌∙◌, subst}
 use Rattle.usb_machine.specs.declared.entry.TheConstants.{HUB}
-use Rattle.usb_line.specs.declared.made.HostCall.TheVariants as host_call
+use Rattle.usb_trace.specs.declared.rows.HostCall.TheVariants as host_call
 use Rattle.usb_line.proofs.Calling.{flags_are, was_up, made_up}
 use Rattle.usb_line.proofs.run.LineRun.bring_up.Goals as goal
 

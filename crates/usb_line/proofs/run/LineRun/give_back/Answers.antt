@@ -8,8 +8,9 @@ use Rattle.usb_machine.specs.declared.plain.Plain.{Plain}
 use Rattle.usb_class.specs.Handler.{goes_again}
 use Rattle.usb_line.specs.declared.run.EndRow.{EndRow}
 use Rattle.usb_line.specs.declared.run.LineRun.{LineRun}
-use Rattle.usb_line.specs.GivebackRow.{brought_bytes, sent_bytes}
-use Rattle.usb_line.specs.Back.{Adds, GaveStatus, Handled}
+use Rattle.usb_trace.specs.GivebackRow.{brought_bytes, sent_bytes}
+use Rattle.usb_trace.specs.GivebackRow.{Adds}
+use Rattle.usb_line.specs.Back.{GaveStatus, Handled}
 use Rattle.usb_line.proofs.DriverQuestions.{noted_there, can_ask_decided, home_asking, home_in, poses_within, poses_settle}
 use Rattle.usb_line.proofs.run.LineRun.give_back.Goals as goal
 

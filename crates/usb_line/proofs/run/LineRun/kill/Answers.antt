@@ -1,5 +1,5 @@
 use Rattle.std.proofs.Common.{refl}
-use Rattle.usb_line.specs.declared.made.HostCall.TheVariants as host_call
+use Rattle.usb_trace.specs.declared.rows.HostCall.TheVariants as host_call
 use Rattle.usb_line.proofs.Calling.{is_there, may_kill, made_kill}
 use Rattle.usb_line.proofs.run.LineRun.kill.Goals as goal
 

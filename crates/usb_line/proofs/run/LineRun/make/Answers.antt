@@ -1,7 +1,7 @@
 use Rattle.std.proofs.Common.{◌≡◌, refl, sym, ap, ◌∙◌}
 use Rattle.std.specs.Prelude.{slice_get}
 use Rattle.std.proofs.lemmas.Result.{IfOk-weaker}
-use Rattle.usb_line.specs.declared.made.HostCall.TheVariants as host_call
+use Rattle.usb_trace.specs.declared.rows.HostCall.TheVariants as host_call
 use Rattle.usb_line.specs.Sent.{said_of}
 use Rattle.usb_line.proofs.Calling.{is_there, may_make, may_hub}
 use Rattle.usb_line.proofs.run.LineRun.make.Goals as goal

@@ -2,7 +2,7 @@ use Rattle.std.proofs.Common.{◌≡◌, ◌++◌, [], ◌∷◌, map, take, get
 use Rattle.std.proofs.lemmas.Grind.{common_steps}
 use Rattle.usb_scene.specs.declared.scene.Call.{Call}
 use Rattle.usb_scene.specs.Operation.{operation_of}
-use Rattle.usb_line.specs.Prepared.{calls_from}
+use Rattle.usb_trace.specs.Plan.{calls_from}
 use Rattle.usb_line.specs.Calls.{Made, MayBeMade, IsUnderway}
 use Rattle.usb_line.proofs.Threads.{next_here, made_row, one_made}
 use Rattle.usb_line.proofs.run.LineRun.make_all.Goals as goal

@@ -1,6 +1,6 @@
 use Rattle.std.proofs.Common.{◌++◌, map, take}
 use Rattle.usb_scene.specs.declared.scene.Call.{Call}
-use Rattle.usb_line.specs.Prepared.{calls_from}
+use Rattle.usb_trace.specs.Plan.{calls_from}
 use Rattle.usb_line.specs.Calls.{IsUnderway}
 use Rattle.usb_line.proofs.run.LineRun.make_all.Given as goal
 

@@ -2,9 +2,9 @@ use Rattle.std.proofs.Common.{refl, sym, subst, append-nil}
 use Rattle.usb_types.specs.declared.errno.Errno.TheVariants.{ENODEV}
 use Rattle.usb_types.specs.declared.errno.Code.TheVariants.{Fault}
 use Rattle.usb_machine.specs.Plain.{Stands}
-use Rattle.usb_line.specs.declared.made.HostCall.TheVariants as host_call
-use Rattle.usb_line.specs.declared.made.CallAnswer.TheVariants as told
-use Rattle.usb_line.specs.Prepared.{machine_of}
+use Rattle.usb_trace.specs.declared.rows.HostCall.TheVariants as host_call
+use Rattle.usb_trace.specs.declared.rows.CallAnswer.TheVariants as told
+use Rattle.usb_trace.specs.Plan.{machine_of}
 use Rattle.usb_line.proofs.Calling.{made_now}
 use Rattle.usb_line.proofs.run.LineRun.refuse.Goals as goal
 

@@ -3,7 +3,7 @@ use Rattle.usb_machine.specs.declared.transfer.Transfer.{Transfer}
 use Rattle.usb_machine.specs.Shapes.{shape_fault}
 use Rattle.usb_prepare.specs.Ends.{shape_at}
 use Rattle.usb_prepare.specs.Layout.{home}
-use Rattle.usb_line.specs.Prepared.{fresh}
+use Rattle.usb_trace.specs.Plan.{fresh}
 use Rattle.usb_line.proofs.Lookups.{none_of}
 use Rattle.usb_line.proofs.Submitted.{sent_few, row_near, end_near, known, fresh_is, fault_is, made_fault, may_send, made_sent}
 use Rattle.usb_line.proofs.run.LineRun.submit.Goals as goal

@@ -3,7 +3,7 @@ use Rattle.std.specs.Prelude.{slice_get}
 use Rattle.std.proofs.lemmas.Option.{slice_get-get_or}
 use Rattle.usb_prepare.proofs.Facts.{few_urbs}
 use Rattle.usb_prepare.specs.Layout.{urb_count}
-use Rattle.usb_line.specs.Prepared.{is_numbered_by, owner_of}
+use Rattle.usb_trace.specs.Plan.{is_numbered_by, owner_of}
 use Rattle.usb_line.specs.Reads.{MayRead}
 use Rattle.usb_line.proofs.Reading.{few_numbers, few_more, number_next}
 use Rattle.usb_line.proofs.run.LineRun.submit_reads.Goals as goal

@@ -1,6 +1,6 @@
 use Rattle.std.proofs.Common.{◌≡◌}
 use Rattle.usb_scene.specs.declared.scene.Scene.{Scene}
-use Rattle.usb_line.specs.Prepared.{number_of}
+use Rattle.usb_trace.specs.Plan.{number_of}
 use Rattle.usb_line.specs.Shows.{Shows}
 use Rattle.usb_line.specs.Reads.{MayBegin, read_below}
 use Rattle.usb_line.proofs.run.LineRun.submit_reads.Given as goal

@@ -1,6 +1,6 @@
 use Rattle.std.proofs.Common.{false, ◌∙◌}
 use Rattle.usb_machine.specs.declared.entry.TheConstants.{HUB}
-use Rattle.usb_line.specs.declared.made.HostCall.TheVariants as host_call
+use Rattle.usb_trace.specs.declared.rows.HostCall.TheVariants as host_call
 use Rattle.usb_line.specs.Line.{shutting}
 use Rattle.usb_line.proofs.Calling.{flags_are, was_down, made_down}
 use Rattle.usb_line.proofs.run.LineRun.take_down.Goals as goal

@@ -1,6 +1,6 @@
 use Rattle.std.proofs.Common.{ℕ, cond, refl, ap, eq-eqb}
-use Rattle.usb_line.specs.declared.made.HostCall.TheVariants as host_call
-use Rattle.usb_line.specs.declared.made.CallAnswer.TheVariants as told
+use Rattle.usb_trace.specs.declared.rows.HostCall.TheVariants as host_call
+use Rattle.usb_trace.specs.declared.rows.CallAnswer.TheVariants as told
 use Rattle.usb_line.proofs.Calling.{there, is_there, near_plain, backed, made_now}
 use Rattle.usb_line.proofs.run.LineRun.unblock.Goals as goal
 

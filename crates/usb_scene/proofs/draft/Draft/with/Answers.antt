@@ -2,7 +2,7 @@ use Rattle.std.proofs.Common.{◌≡◌, true, None, ap, ◌∙◌, sym, subst}
 use Rattle.std.specs.Prelude.{IsTrue}
 use Rattle.usb_statement.specs.Statements.{keyword_said}
 use Rattle.usb_scene.specs.Rules.{SoFar, may_stand, is_within, statement_cause}
-use Rattle.usb_scene.specs.Counts.{count_in, counts_behind}
+use Rattle.usb_scene.specs.Counts.{count_in, counts_after}
 use Rattle.usb_scene.specs.Named.{number_in, called_target}
 use Rattle.usb_scene.proofs.Allowed.{allowed_said}
 use Rattle.usb_scene.proofs.Drafts.{draft_with}
@@ -25,5 +25,5 @@ invariant_of-result c =
     let count = count_in c.self.inside.rejects.counts in
     let called = c.called_target-target.ensures ∙ ap (λ (t : SoFar). called_target t.scene said) same in
     let room = draft_with s c.self.inside.more_replies c.self.inside.more_calls c.args.line count (count_in c.in_ok-rejects.rejects.counts) (number_in c.self.inside.names.numbers) (number_in c.in_ok-names.names.numbers) said c.self.invariant
-    (λ urb. c.in_ok-rejects.ensures urb ∙ ap (λ v. counts_behind said v count urb) called) c.in_ok-names.ensures place (allowed_said s said allowed) in
-    rw (c.in_ok-add.ensures, c.replies_behind-more_replies.ensures, c.calls_behind-more_calls.ensures) room
+    (λ urb. c.in_ok-rejects.ensures urb ∙ ap (λ v. counts_after said v count urb) called) c.in_ok-names.ensures place (allowed_said s said allowed) in
+    rw (c.in_ok-add.ensures, c.replies_after-more_replies.ensures, c.calls_after-more_calls.ensures) room

@@ -1,5 +1,0 @@
-use Rattle.usb_line.proofs.Windows.{windows_follow}
-use Rattle.usb_line.proofs.run_laws.a_drivers_windows_follow_one_another.Goals as goal
-
-pub returns : goal.returns
-returns c = windows_follow

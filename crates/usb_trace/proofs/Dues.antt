@@ -1,0 +1,72 @@
+-- What is due at an endpoint, piece by piece.
+use Rattle.std.proofs.Common.{ℕ, suc, ◌≡◌, ◌+◌, ◌-◌, ◌≤◌, Bool, true, false, cond, Option, List, [], ◌∷◌, ◌++◌, length, map, take, replicate, refl, sym, ap, ◌∙◌, arith, append_assoc, append-nil, length-append}
+use Rattle.std.specs.Prelude.{slice_get}
+use Rattle.std.proofs.Math.Seq.{take-append_seam}
+use Rattle.std.proofs.lemmas.List.{map-append, length-replicate, replicate-append-replicate}
+use Rattle.usb_xfer.specs.Replies.{Reply, Question}
+use Rattle.usb_device.specs.Device.{Call}
+use Rattle.usb_device.specs.Replied.{call_of}
+use Rattle.usb_scene.specs.declared.scene.Scene.{Scene}
+use Rattle.usb_scene.specs.declared.scene.SceneDevice.{SceneDevice}
+use Rattle.usb_prepare.specs.Ends.{shape_at}
+use Rattle.usb_trace.specs.Script.{replies_from}
+use Rattle.usb_trace.specs.Plan.{script_of}
+use Rattle.usb_trace.specs.Due.{is_ruled, heard_before, answer_to, answers_from, next_due}
+use Rattle.usb_trace.proofs.Scripts.{replies-append, length-replies}
+
+module _ (device : Option SceneDevice) where
+  answers-append : (calls : List Call) (qs ps : List Question) → answers_from device calls (qs ++ ps) ≡ answers_from device calls qs ++ answers_from device (calls ++ map (call_of 0) qs) ps
+  answers-append calls [] ps = ap (λ l. answers_from device l ps) (sym (append-nil calls))
+  answers-append calls (q ∷ qs) ps = let next : List Call = calls ++ call_of 0 q ∷ [] in
+      ap (λ l. answer_to device calls q ∷ l) (answers-append next qs ps
+      ∙ ap (λ l. answers_from device next qs ++ answers_from device l ps) (append_assoc calls (call_of 0 q ∷ []) (map (call_of 0) qs)))
+
+  length-answers : (calls : List Call) (qs : List Question) → length (answers_from device calls qs) ≡ length qs
+  length-answers calls [] = refl
+  length-answers calls (q ∷ qs) = ap (λ n. suc n) (length-answers (calls ++ call_of 0 q ∷ []) qs)
+
+module _ (s : Scene) (e : ℕ) where
+  abbrev device : Option SceneDevice
+  device = slice_get s.devices (shape_at s e).device
+
+  abbrev heard : List Call
+  heard = heard_before s (shape_at s e).device
+
+  abbrev due : Bool → List Question → List Question → List Reply
+  due b asked qs = cond b (answers_from device (heard ++ map (call_of 0) asked) qs) (replies_from (script_of s e) (length asked) (length qs))
+
+  pub due-append : (asked qs ps : List Question) → next_due s e asked (qs ++ ps) ≡ next_due s e asked qs ++ next_due s e (asked ++ qs) ps
+  due-append asked qs ps = go (is_ruled s e)
+    where
+      go : (b : Bool) → due b asked (qs ++ ps) ≡ due b asked qs ++ due b (asked ++ qs) ps
+      go true = let before : List Call = heard ++ map (call_of 0) asked in
+          answers-append device before qs ps ∙ ap (λ l. answers_from device before qs ++ answers_from device l ps)
+          (append_assoc heard (map (call_of 0) asked) (map (call_of 0) qs) ∙ ap (λ l. heard ++ l) (sym (map-append (call_of 0) asked qs)))
+      go false = ap (replies_from (script_of s e) (length asked)) (length-append qs ps)
+          ∙ (replies-append (script_of s e) (length asked) (length qs) (length ps)
+          ∙ ap (λ m. replies_from (script_of s e) (length asked) (length qs) ++ replies_from (script_of s e) m (length ps)) (sym (length-append asked qs)))
+
+  pub due-none : (asked : List Question) → next_due s e asked [] ≡ []
+  due-none asked = go (is_ruled s e)
+    where
+      go : (b : Bool) → due b asked [] ≡ []
+      go true = refl
+      go false = refl
+
+  pub length-due : (asked qs : List Question) → length (next_due s e asked qs) ≡ length qs
+  length-due asked qs = go (is_ruled s e)
+    where
+      go : (b : Bool) → length (due b asked qs) ≡ length qs
+      go true = length-answers device (heard ++ map (call_of 0) asked) qs
+      go false = length-replies (script_of s e) (length asked) (length qs)
+
+  -- the first k of the replies to n questions that are the same
+  pub take-due : (asked : List Question) (q : Question) (k n : ℕ) → k ≤ n → take k (next_due s e asked (replicate n q)) ≡ next_due s e asked (replicate k q)
+  take-due asked q k n l =
+      let front : List Reply = next_due s e asked (replicate k q) in
+      let back : List Reply = next_due s e (asked ++ replicate k q) (replicate (n - k) q) in
+      let count : n ≡ k + (n - k) = omega arith in
+      let split : replicate n q ≡ replicate k q ++ replicate (n - k) q = ap (λ m. replicate m q) count ∙ sym (replicate-append-replicate k (n - k) q) in
+      let parts : next_due s e asked (replicate n q) ≡ front ++ back = ap (next_due s e asked) split ∙ due-append asked (replicate k q) (replicate (n - k) q) in
+      let long : k ≡ length front = sym (length-due asked (replicate k q) ∙ length-replicate k q) in
+      (λ i. take (long i) (parts i)) ∙ take-append_seam front back

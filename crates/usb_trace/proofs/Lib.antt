@@ -1,0 +1,22 @@
+pub mod AskedEach
+pub mod Entries
+pub mod Dues
+pub mod Bytes
+pub mod Stills
+pub mod Scripts
+pub mod Episodes
+pub mod ByNumber
+pub mod Owners
+pub mod ExampleScenes
+mod HandlerExamples
+mod CallExamples
+pub mod GivenBack
+pub mod FinishedFlags
+pub mod OneStatus
+pub mod Acked
+pub mod Carrying
+pub mod Windows
+pub mod Beginning
+pub mod Firsts
+pub mod Jobs
+pub mod Heard

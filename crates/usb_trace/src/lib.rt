@@ -1,0 +1,18 @@
+//! What a run of a scene is, whatever makes it, with the laws that hold of each run, and the rows that it leaves for its report.
+#![tactic(auto)]
+
+mod owner;
+mod received;
+mod rows;
+mod run_laws;
+mod thread;
+
+pub use owner::{Owner, owner_in};
+pub use received::{EndReceived, Received, brought};
+pub use rows::{CallAnswer, CallMade, GivebackRow, HostCall, Outcome, RunOutcome};
+pub use run_laws::{
+    a_drivers_windows_follow_one_another, a_printers_windows_are_jobs,
+    a_status_is_the_first_unlinks_or_the_transfers, a_transfer_that_goes_again_comes_back_next,
+    an_endpoint_received_what_it_acknowledged, each_accepted_urb_is_given_back_once,
+};
+pub use thread::{host_call_in, main_pass_of, pass_of_thread};

@@ -1,0 +1,43 @@
+//! Which driver has an URB.
+ghost use Rattle.std.specs.Prelude.{◌≡◌, ◌<◌, ◌^◌, length};
+ghost use Rattle.usb_prepare.specs.Prepared.{probes_of};
+ghost use Rattle.usb_scene.specs.declared.scene.Scene.{Scene};
+ghost use Rattle.usb_trace.specs.Plan.{owner_of};
+
+use usb_bind::{Board, Driver};
+use usb_class::{kept_size, role_of};
+use usb_types::{Role, UrbId};
+
+/// The driver that has an URB.
+#[derive(Clone, Copy)]
+pub struct Owner {
+    /// The place of its binding among all.
+    pub place: u32,
+    pub driver: Driver,
+    /// What it has the URB for.
+    pub role: Role,
+    /// Buffer size in bytes of the driver's standing read; None if it has none.
+    pub size: Option<u32>,
+    /// The driver's URB for control transfers, if it has one.
+    pub ctl: Option<UrbId>,
+}
+
+/// The owner of an URB: the first binding that has it.
+pub fn owner_in(board: &Board, urb: u32) -> Option<Owner>
+    requires few { length board.now.bindings < 2 ^ 32 }
+    ensures { (s : Scene) → board.now ≡ (probes_of s).board → result ≡ owner_of s urb }
+{
+    let bindings = board.bindings();
+    for (place, bound) in bindings.iter().enumerate() {
+        if let Some(role) = role_of(bound, urb) {
+            return Some(Owner {
+                place: place as u32,
+                driver: bound.driver,
+                role,
+                size: kept_size(board, bound, role),
+                ctl: bound.urb(Role::Ctl),
+            });
+        }
+    }
+    None
+}
