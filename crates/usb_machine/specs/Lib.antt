@@ -10,3 +10,6 @@ pub mod Rows
 pub mod Plain
 pub mod Replay
 pub mod Calls
+pub mod Fresh
+pub mod HostCalls
+pub mod Tokens

@@ -1,0 +1,143 @@
+-- What the server has seen of an URB stays so while it makes no entry.
+use Rattle.std.proofs.Common.{◌≡◌, ◌≢◌, ◌⊎◌, inl, inr, ⊎_elim, ℕ, ◌+◌, ◌<◌, ◌≤◌, Bool, true, false, cond, eqb, List, [], ◌∷◌, ◌++◌, length, sym, refl, ap, ◌∙◌, subst, arith, length-append}
+use mathlib.Core.List.{IsPrefix}
+use mathlib.Core.Logic.{dite}
+use native.Mathlib.Decide.{ℕ_discrete}
+use Rattle.usb_machine.specs.declared.event.Event.{Event}
+use Rattle.usb_machine.specs.declared.event.Event.TheVariants.{Submit, Link, Take, Mark, Finish, Give, Rest, End, Reject, Withdraw, Quiet, Claim, Flag, Unflag}
+use Rattle.usb_machine.specs.declared.event.Answer.{Answer}
+use Rattle.usb_machine.specs.declared.entry.Entry.{Entry}
+use Rattle.usb_machine.specs.declared.state.UrbState.{UrbState}
+use Rattle.usb_machine.specs.declared.state.Mark.TheVariants.{Clear, Unlinked, Finished}
+use Rattle.usb_machine.specs.State.{after, accepted, unlinks, finishes}
+use Rattle.usb_machine.specs.History.{Machine, state_of, is_of}
+use Rattle.usb_machine.specs.Parts.{part_of}
+use Rattle.usb_machine.specs.Legal.{May, Follows, IsLegal, empty, longer}
+use Rattle.usb_machine.specs.declared.entry.TheConstants.{SERVER}
+use Rattle.usb_machine.specs.History.{pending_of}
+use Rattle.usb_machine.specs.Fresh.{Known}
+use Rattle.usb_turn_host.specs.Turning.{IsLater}
+use Rattle.std.proofs.Common.{Option, Some, None}
+use Rattle.usb_types.specs.declared.urb.Why.{Why}
+use Rattle.usb_machine.specs.declared.state.Mark.{Mark as MarkState}
+use Rattle.std.proofs.Common.{append-nil}
+use Rattle.usb_machine.specs.History.{home_of, HasHome}
+use Rattle.usb_machine.specs.Legal.{times}
+use Rattle.usb_machine.proofs.Rooms.{queued_has_home, pending_is_queued}
+use Rattle.usb_machine.specs.Fresh.{Looked}
+use Rattle.usb_machine.specs.Tokens.{is_finished, IsPending}
+use Rattle.usb_machine.specs.State.{is_clear, why_of}
+use Rattle.usb_machine.proofs.Server as machine_server
+use Rattle.usb_machine.specs.Tokens.{gives_of}
+use Rattle.usb_turn_host.proofs.Serving.{gives_same}
+use Rattle.usb_machine.proofs.Server.{prefix_last, part_length, pending_own, mark_stands, running_few}
+use Rattle.usb_machine.proofs.Steps.{state_of-snoc, part_own, part_other}
+
+-- what each entry of others keeps of an URB's state stays
+pub stays : (g : Machine) (u : ℕ) (P : UrbState → Type 0) → ((h : List Entry) (x : Entry) → Follows g h x → 0 ≢ x.pass → P (state_of h u) → P (cond (is_of u x.event) (after x.event x.answer (state_of h u)) (state_of h u)))
+    → (seen h : List Entry) → IsLegal g h → IsPrefix seen h → part_of seen 0 ≡ part_of h 0 → P (state_of seen u) → P (state_of h u)
+stays g u P step seen _ empty p same m = subst (λ l. P (state_of l u)) (none seen p) m
+  where
+    none : (xs : List Entry) → IsPrefix xs [] → xs ≡ []
+    none [] p = refl
+    none (y ∷ xs) p = absurd (cc (p.1))
+stays g u P step seen _ (longer h x legal f) p same m =
+    ⊎_elim (λ e. subst (λ l. P (state_of l u)) e m)
+    (λ (q : IsPrefix seen h). dite (ℕ_discrete 0 x.pass)
+    (λ is. let short = part_length seen h 0 q in let long = ap length (same ∙ subst (λ k. part_of (h ++ x ∷ []) k ≡ part_of h k ++ x ∷ []) (sym is) (part_own h x)) in absurd (omega (arith, length-append (part_of h 0) (x ∷ []))))
+    (λ other. subst P (sym (state_of-snoc h x u)) (step h x f other (stays g u P step seen h legal q (same ∙ part_other h x 0 other) m))))
+    (prefix_last seen h x p)
+
+if_either : (P : UrbState → Type 0) (b : Bool) (s t : UrbState) → P s → P t → P (cond b s t)
+if_either P true s t a c = a
+if_either P false s t a c = c
+
+Runs : UrbState → Type 0
+Runs s = 0 < s.handlers
+
+runs_after : (e : Event) (a : Answer) (s : UrbState) → ((u : _) → e ≡ End u → ⊥) → Runs s → Runs (after e a s)
+unfolding Runs
+runs_after (Submit u n) a s off r = if_either Runs (accepted a) _ s r r
+runs_after (Mark u w) a s off r = if_either Runs (unlinks a) _ s r r
+runs_after (Finish u c) a s off r = if_either Runs (finishes a) _ s r r
+runs_after (Give u) a s off r = omega arith
+runs_after (End u) a s off r = absurd (off u refl)
+runs_after _ a s off r = r
+
+-- a handler runs until its End
+pub runs_stay : (g : Machine) (u : ℕ) → g.bottom ≡ 0 → (seen h : List Entry) → IsLegal g h → IsPrefix seen h → part_of seen 0 ≡ part_of h 0 → 0 < (state_of seen u).handlers → 0 < (state_of h u).handlers
+unfolding Runs
+runs_stay g u bottom = stays g u Runs (λ h x f other r. if_either Runs (is_of u x.event) _ (state_of h u) (runs_after x.event x.answer (state_of h u) (λ v is. other (sym (ends h x f v is))) r) r)
+  where
+    ends : (h : List Entry) (x : Entry) → Follows g h x → (v : _) → x.event ≡ End v → x.pass ≡ 0
+    ends h x f v is = (subst (May g h x.pass) is f.may).0 ∙ bottom
+
+module _ (g : Machine) (p : Known) (h : List Entry) (server : p.number ≡ SERVER) (later : IsLater g p h) where
+  own_part : part_of h 0 ≡ p.mine
+  own_part = subst (λ n. part_of h n ≡ p.mine) server later.own
+
+  -- the pending URBs are those of the server's own entries
+  pub pending_later : (e : ℕ) → pending_of g h e ≡ pending_of g p.mine e
+  pending_later e = pending_own g e h later.legal ∙ ap (λ m. pending_of g m e) own_part
+
+  begins : IsPrefix p.seen h
+  begins = (later.begins.more, sym later.begins.is)
+
+  same_part : part_of p.seen p.number ≡ p.mine → part_of p.seen 0 ≡ part_of h 0
+  same_part own = subst (λ n. part_of p.seen n ≡ p.mine) server own ∙ sym own_part
+
+  pub runs_later : (u : ℕ) → g.bottom ≡ 0 → part_of p.seen p.number ≡ p.mine → 0 < (state_of p.seen u).handlers → 0 < (state_of h u).handlers
+  runs_later u bottom own = runs_stay g u bottom p.seen h later.legal begins (same_part own)
+
+  pub marked_later : (u : ℕ) → part_of p.seen p.number ≡ p.mine → is_clear (state_of p.seen u).mark ≡ false → is_clear (state_of h u).mark ≡ false
+  marked_later u own = mark_stands g u p.seen h later.legal begins (same_part own)
+
+  pub few_later : (u n : ℕ) → gives_of p.mine < n → (state_of h u).handlers < n
+  few_later u n lt = less (state_of h u).handlers (machine_server.gives_of (part_of h 0)) (gives_of p.mine) n (running_few g u h later.legal) (gives_same (part_of h 0) ∙ ap gives_of own_part) lt
+    where
+      less : (a b c d : ℕ) → a ≤ b → b ≡ c → c < d → a < d
+      less a b c d h k l = omega arith
+
+Open : UrbState → Type 0
+Open s = is_finished s.mark ≡ false
+
+open_after : (e : Event) (a : Answer) (s : UrbState) → ((u : _) (c : _) → e ≡ Finish u c → ⊥) → Open s → Open (after e a s)
+unfolding Open
+open_after (Submit u n) a s off r = if_either Open (accepted a) _ s refl r
+open_after (Mark u w) a s off r = if_either Open (unlinks a) _ s refl r
+open_after (Finish u c) a s off r = absurd (off u c refl)
+open_after (Give u) a s off r = refl
+open_after _ a s off r = r
+
+-- an URB that the server has not finished stays so
+pub open_stays : (g : Machine) (u : ℕ) (seen h : List Entry) → IsLegal g h → IsPrefix seen h → part_of seen 0 ≡ part_of h 0 → is_finished (state_of seen u).mark ≡ false → is_finished (state_of h u).mark ≡ false
+unfolding Open
+open_stays g u = stays g u Open (λ h x f other r. if_either Open (is_of u x.event) _ (state_of h u) (open_after x.event x.answer (state_of h u) (λ v c is. other (sym (ends h x f v c is))) r) r)
+  where
+    ends : (h : List Entry) (x : Entry) → Follows g h x → (v : _) (c : _) → x.event ≡ Finish v c → x.pass ≡ 0
+    ends h x f v c is = (subst (May g h x.pass) is f.may).0
+
+-- a mark that is no unlink's and not finished is clear
+pub clear_of : (m : MarkState) → why_of m ≡ None → is_finished m ≡ false → is_clear m ≡ true
+clear_of Clear none open' = refl
+clear_of (Unlinked w) none open' = absurd (let bad : Some w ≡ None = none in cc)
+clear_of (Finished c) none open' = absurd (let bad : true ≡ false = open' in cc)
+
+pub unlinked_of : (m : MarkState) (w : Why) → why_of m ≡ Some w → m ≡ Unlinked w
+unlinked_of Clear w is = absurd (cc)
+unlinked_of (Unlinked v) w is = let same : v ≡ w = cc in ap Unlinked same
+unlinked_of (Finished c) w is = absurd (cc)
+
+-- what is pending has a home
+pub pending_has_home : (g : Machine) (p : Known) (u : ℕ) → p.number ≡ SERVER → IsLegal g p.seen → part_of p.seen p.number ≡ p.mine → IsPending g p u → HasHome g u
+pending_has_home g p u server legal own pending =
+    let mine : part_of p.seen 0 ≡ p.mine = subst (λ n. part_of p.seen n ≡ p.mine) server own in
+    let same : pending_of g p.seen (home_of g u) ≡ pending_of g p.mine (home_of g u) = pending_own g (home_of g u) p.seen legal ∙ ap (λ m. pending_of g m (home_of g u)) mine in
+    queued_has_home g u p.seen legal (pending_is_queued g p.seen u legal (subst (λ us. 0 < times u us) (sym same) pending))
+
+-- what the server looks at and has not finished is unlinked or clear
+pub looked_open : (g : Machine) (p q : Known) (u : ℕ) → p.number ≡ SERVER → part_of p.seen p.number ≡ p.mine → Looked g p q → is_finished (state_of p.seen u).mark ≡ false → is_finished (state_of q.seen u).mark ≡ false
+looked_open g p q u server own l open' =
+    let before : part_of p.seen 0 ≡ p.mine = subst (λ n. part_of p.seen n ≡ p.mine) server own in
+    let after : part_of q.seen 0 ≡ p.mine = subst (λ n. part_of q.seen n ≡ p.mine) (l.grown.number ∙ server) (l.sound.own ∙ (l.grown.mine ∙ append-nil p.mine)) in
+    open_stays g u p.seen q.seen l.sound.legal (l.grown.begins.more, sym l.grown.begins.is) (before ∙ sym after) open'

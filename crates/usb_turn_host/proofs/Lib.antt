@@ -1,0 +1,11 @@
+pub mod Standing
+pub mod Turns
+pub mod Resting
+pub mod Homes
+pub mod Hubs
+pub mod Later
+pub mod Taking
+pub mod Serving
+pub mod Closing
+pub mod Beginning
+pub mod Settled
