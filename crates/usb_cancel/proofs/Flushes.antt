@@ -1,24 +1,22 @@
 -- How far a shutdown is: what is done, and what is left.
-use Rattle.std.proofs.Common.{◌≡◌, ◌≢◌, ℕ, zero, suc, ◌+◌, ◌<◌, ◌⊎◌, inl, inr, ⊎_elim, Bool, true, false, not, ◌&&◌, ◌||◌, cond, eqb, List, [], ◌∷◌, ◌++◌, length, take, drop, get_or, map, ◌≤◌, Option, Some, None, sym, refl, ap, ◌∙◌, subst, append_assoc, append-nil, arith, eq-eqb, eqb-true, ne_eqb, set, fold}
+use Rattle.std.proofs.Common.{◌≡◌, ◌≢◌, ℕ, zero, suc, ◌+◌, ◌<◌, ◌⊎◌, inl, inr, ⊎_elim, Bool, true, false, cond, eqb, List, [], ◌∷◌, ◌++◌, length, take, drop, get_or, ◌≤◌, Option, None, sym, refl, ap, ◌∙◌, subst, append_assoc, append-nil, arith, eq-eqb, ne_eqb, set}
 use Rattle.std.proofs.lemmas.List.Sums.{fold-append}
 use Rattle.usb_types.specs.declared.errno.Code.{Code}
 use Rattle.usb_types.specs.declared.urb.UrbId.{UrbId}
 use Rattle.usb_types.specs.declared.urb.Flag.{Flag as FlagName}
 use Rattle.usb_types.specs.declared.urb.Flag.TheVariants.{Gone, Off, Down}
 use Rattle.usb_types.specs.declared.urb.Why.TheVariants.{Shutdown}
-use Rattle.usb_machine.specs.declared.event.Event.{Event}
-use Rattle.usb_machine.specs.declared.event.Event.TheVariants.{Mark, Quiet, Claim, Flag}
-use Rattle.usb_machine.specs.declared.event.Answer.TheVariants.{Number}
+use Rattle.usb_machine.specs.declared.event.Event.TheVariants.{Quiet, Claim, Flag}
 use Rattle.usb_machine.specs.declared.transfer.Transfer.{Transfer}
 use Rattle.usb_machine.specs.declared.entry.Entry.{Entry}
 use Rattle.usb_machine.specs.declared.state.Flags.{Flags}
 use Rattle.usb_machine.specs.declared.pass_row.Held.{Held}
 use Rattle.usb_machine.specs.State.{has_flag, with_flag}
 use Rattle.usb_machine.specs.History.{Machine, is_of}
-use Rattle.usb_machine.specs.Parts.{held_of, held_after, holds_any, any_flag, keeps, nothing_held}
-use Rattle.usb_machine.specs.Calls.{entry, plain_entry, mark_entry, marks_of, claims_of, claim_entries}
+use Rattle.usb_machine.specs.Parts.{held_of, held_after, holds_any, keeps, nothing_held}
+use Rattle.usb_machine.specs.Calls.{plain_entry, mark_entry, marks_of, claims_of, claim_entries}
 use Rattle.usb_machine.proofs.Steps.{held_of-snoc}
-use Rattle.usb_machine.specs.Fresh.{Known, Begins, Grown, Sound, EndsWith, Fresh}
+use Rattle.usb_machine.specs.Fresh.{Known, Grown, Sound, EndsWith, Fresh}
 use mathlib.Core.Logic.{dite}
 use native.Mathlib.Decide.{ℕ_discrete}
 use Rattle.std.proofs.lemmas.List.{get_or-set_same, get_or-set_other}
@@ -87,8 +85,8 @@ flag_next f p q r all rest u l step =
       flagged = λ v h. ⊎_elim
           (λ (t : has_flag f (held_of q.mine v).flags ≡ true). inl (ap (has_flag f) (after v) ∙ has_if f (eqb u v) (held_of q.mine v).flags t))
           (λ (t : (u ≡ v) ⊎ Has rest v). ⊎_elim
-              (λ (e : u ≡ v). inl (ap (has_flag f) (after v ∙ ap (λ b. cond b (with_flag f true (held_of q.mine v).flags) (held_of q.mine v).flags) (eq-eqb u v e)) ∙ set_is f (held_of q.mine v).flags))
-              (λ (k : Has rest v). inr k) t)
+          (λ (e : u ≡ v). inl (ap (has_flag f) (after v ∙ ap (λ b. cond b (with_flag f true (held_of q.mine v).flags) (held_of q.mine v).flags) (eq-eqb u v e)) ∙ set_is f (held_of q.mine v).flags))
+          (λ (k : Has rest v). inr k) t)
           (l.flagged v h);
     }
 
@@ -154,13 +152,13 @@ settle_next g p q r all rest u i rests t lt at l step claimed =
       kept = λ v h. ⊎_elim
           (λ (k : keeps q.mine v ≡ true). inl (ap (λ (d : Held). d.kept) (after v) ∙ kept_if (eqb u v) (held_of q.mine v) (l.held v h) k))
           (λ (k : (u ≡ v) ⊎ Has rest v). ⊎_elim
-              (λ (e : u ≡ v). inl (ap (λ (d : Held). d.kept) (after v ∙ ap (λ b. cond b (record (held_of q.mine v) { kept = holds_any (held_of q.mine v) }) (held_of q.mine v)) (eq-eqb u v e)) ∙ l.held v h))
-              (λ (j : Has rest v). inr j) k)
+          (λ (e : u ≡ v). inl (ap (λ (d : Held). d.kept) (after v ∙ ap (λ b. cond b (record (held_of q.mine v) { kept = holds_any (held_of q.mine v) }) (held_of q.mine v)) (eq-eqb u v e)) ∙ l.held v h))
+          (λ (j : Has rest v). inr j) k)
           (l.kept v h);
       last = inr (step.sound, ends_more r.seen l.done xs step.ends);
       claims = λ j lj. dite (ℕ_discrete j i)
           (λ same. subst (λ k. HasClaimed r.seen r.number (get_or all k 0) (get_or (set rests i t) k None)) (sym same)
-              (subst (λ v. HasClaimed r.seen r.number v (get_or (set rests i t) i None)) at (subst (HasClaimed r.seen r.number u) (sym (get_or-set_same rests i t None lt)) claimed)))
+          (subst (λ v. HasClaimed r.seen r.number v (get_or (set rests i t) i None)) at (subst (HasClaimed r.seen r.number u) (sym (get_or-set_same rests i t None lt)) claimed)))
           (λ off. subst (HasClaimed r.seen r.number (get_or all j 0)) (sym (get_or-set_other rests i j t None off)) (claimed_later q r xs (get_or all j 0) (get_or rests j None) step.grown (l.claims j (below j i lj off))));
     }
   where

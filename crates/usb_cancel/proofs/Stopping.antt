@@ -1,19 +1,19 @@
 -- What a pass holds after the entries of the calls, and what it has claimed.
-use Rattle.std.proofs.Common.{◌≡◌, ◌≢◌, ℕ, ◌+◌, ◌<◌, Bool, true, false, not, ◌||◌, cond, eqb, List, [], ◌∷◌, ◌++◌, Option, Some, None, fold, sym, refl, ap, ◌∙◌, subst, append_assoc, append-nil, arith, eq-eqb, ne_eqb}
+use Rattle.std.proofs.Common.{◌≡◌, ℕ, ◌+◌, Bool, true, not, ◌||◌, cond, eqb, List, [], ◌∷◌, ◌++◌, Option, None, fold, sym, refl, ap, ◌∙◌, subst, append_assoc, append-nil, arith, eq-eqb, ne_eqb}
 use Rattle.std.proofs.lemmas.List.Sums.{fold-append}
 use Rattle.usb_types.specs.declared.errno.Code.{Code}
 use Rattle.usb_types.specs.declared.urb.Why.TheVariants.{Kill}
 use Rattle.usb_machine.specs.declared.event.Event.{Event}
-use Rattle.usb_machine.specs.declared.event.Event.TheVariants.{Mark, Reject, Withdraw, Quiet, Claim}
+use Rattle.usb_machine.specs.declared.event.Event.TheVariants.{Mark, Reject, Quiet, Claim}
 use Rattle.usb_machine.specs.declared.event.Answer.TheVariants.{Number}
 use Rattle.usb_machine.specs.declared.transfer.Transfer.{Transfer}
 use Rattle.usb_machine.specs.declared.entry.Entry.{Entry}
 use Rattle.usb_machine.specs.History.{Machine, is_of}
 use Rattle.usb_machine.specs.declared.pass_row.Held.{Held}
-use Rattle.usb_machine.specs.Parts.{held_of, held_after, holds_any, any_flag, keeps, nothing_held}
-use Rattle.usb_machine.specs.Calls.{entry, plain_entry, mark_entry, claim_entries, poison_entries}
-use Rattle.usb_machine.specs.Fresh.{Known, Begins, Grown, EndsWith, Fresh}
-use Rattle.usb_machine.specs.HostCalls.{HasClaimed, RestedBeforeLast, number_of, rested_of}
+use Rattle.usb_machine.specs.Parts.{held_of, held_after, any_flag, keeps, nothing_held}
+use Rattle.usb_machine.specs.Calls.{entry, plain_entry, mark_entry, poison_entries}
+use Rattle.usb_machine.specs.Fresh.{Known, Grown, EndsWith, Fresh}
+use Rattle.usb_machine.specs.HostCalls.{HasClaimed, RestedBeforeLast, number_of}
 
 -- what is held of u after one more event, which is of u where b is true
 abbrev held_if : Bool → Held → Event → Held

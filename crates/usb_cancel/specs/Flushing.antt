@@ -1,5 +1,5 @@
 -- The entries of a shutdown of some URBs.
-use Rattle.std.specs.Prelude.{◌≡◌, ℕ, ◌⊎◌, true, false, List, [], ◌∷◌, ◌++◌, map, length, Option}
+use Rattle.std.specs.Prelude.{◌≡◌, ℕ, ◌⊎◌, true, false, List, [], ◌∷◌, map, length, Option}
 use Rattle.usb_types.specs.declared.errno.Code.{Code}
 use Rattle.usb_types.specs.declared.urb.UrbId.{UrbId}
 use Rattle.usb_types.specs.declared.urb.Flag.{Flag as FlagName}
@@ -9,7 +9,7 @@ use Rattle.usb_machine.specs.declared.transfer.Transfer.{Transfer}
 use Rattle.usb_machine.specs.declared.entry.Entry.{Entry}
 use Rattle.usb_machine.specs.State.{has_flag}
 use Rattle.usb_machine.specs.Parts.{held_of, holds_any, keeps}
-use Rattle.usb_machine.specs.Calls.{plain_entry, marks_of, claims_of}
+use Rattle.usb_machine.specs.Calls.{plain_entry, marks_of}
 use Rattle.usb_machine.specs.Fresh.{Known, Grown}
 use Rattle.usb_machine.specs.HostCalls.{number_of}
 

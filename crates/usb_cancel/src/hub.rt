@@ -56,12 +56,7 @@ fn claim<H: Host, R: Wait>(rt: &R, host: &H, hub: &mut H::Hub, urb: UrbId) -> Op
 }
 
 /// Waits until the URB is quiet, and claims what rests with it.
-fn settle<H: Host, R: Wait>(
-    rt: &R,
-    host: &H,
-    hub: &mut H::Hub,
-    urb: UrbId,
-) -> Option<Transfer>
+fn settle<H: Host, R: Wait>(rt: &R, host: &H, hub: &mut H::Hub, urb: UrbId) -> Option<Transfer>
     requires here { H.is_of host.now (H.Hub.own hub.old) }
     requires whole { IsWholeHub (H.machine host.now) (H.known (H.Hub.own hub.old)) (H.Hub.flags hub.old) (H.Hub.has_room hub.old) }
     requires urb { IsUrb (H.machine host.now) urb.0 }

@@ -65,12 +65,7 @@ pub fn poison<H: Host, R: Wait>(
 }
 
 /// Rejects and unlinks the URB, waits until it is quiet, claims what rests with it, and withdraws the reject.
-pub fn kill<H: Host, R: Wait>(
-    rt: &R,
-    host: &H,
-    pass: &mut H::Pass,
-    urb: UrbId,
-) -> Option<Transfer>
+pub fn kill<H: Host, R: Wait>(rt: &R, host: &H, pass: &mut H::Pass, urb: UrbId) -> Option<Transfer>
     requires here { H.is_of host.now pass.old }
     requires urb { IsUrb (H.machine host.now) urb.0 }
     requires room { (held_of (H.known pass.old).mine urb.0).rejects < 255 }

@@ -6,7 +6,7 @@ use Rattle.std.proofs.Common.{Option, None}
 use Rattle.std.proofs.lemmas.List.Sums.{fold-append}
 use Rattle.usb_machine.specs.declared.transfer.Transfer.{Transfer}
 use Rattle.usb_machine.specs.HostCalls.{rested_of, rested_after}
-use Rattle.usb_machine.specs.Fresh.{Known, Begins, Grown, Sound, EndsWith, Fresh, Looked}
+use Rattle.usb_machine.specs.Fresh.{Known, Begins, Grown, Fresh}
 
 pub begins_self : (h : List Entry) → Begins h h
 begins_self h = record { more = []; is = sym (append-nil h) }

@@ -24,6 +24,7 @@ use usb_types::{Errno, Flag, UrbId, Why};
 /// with all that the caller's pass had seen and ends with the call. Other passes' entries may stand between.
 pub trait Host: Drop {
     type Pass: Drop + Send;
+
     type Hub: HubToken<Pass = Self::Pass>;
 
     ghost use Rattle.std.specs.Prelude.{ℕ, List};

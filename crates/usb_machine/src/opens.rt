@@ -40,12 +40,7 @@ pub trait Opens: Serves {
         ensures passes { IfOk result (λ parts. map Self.known parts.passes.items ≡ unused_from 2 passes) };
 
     /// Ends the host, with all its tokens and passes in hand, of which one keeps each URB quiet.
-    fn close(
-        self,
-        server: Self::Server,
-        hub: Self::Hub,
-        passes: Vec<Self::Pass>,
-    ) -> Self::Closed
+    fn close(self, server: Self::Server, hub: Self::Hub, passes: Vec<Self::Pass>) -> Self::Closed
         requires here { Self.is_of self (Self.Server.own server) × Self.is_of self (Self.Hub.own hub) × All (Self.is_of self) passes.items }
         requires all { AreAll (Self.machine self) (Self.known (Self.Server.own server) ∷ Self.known (Self.Hub.own hub) ∷ map Self.known passes.items) }
         requires quiet { OneKeeps (Self.machine self) (Self.known (Self.Server.own server) ∷ Self.known (Self.Hub.own hub) ∷ map Self.known passes.items) }

@@ -22,6 +22,7 @@ use usb_types::{Code, UrbId};
 /// server's token.
 pub trait Serves: Host {
     type Server: ServerToken<Pass = Self::Pass>;
+
     type Given: GivenBack;
 
     ghost use Rattle.std.specs.Prelude.{ℕ};
@@ -36,12 +37,7 @@ pub trait Serves: Host {
     ghost is_settled: { Self → Self.Server → ℕ → Type 0 };
 
     /// Takes the first URB of an endpoint's line, with the transfer that was submitted.
-    fn take<R: Wait>(
-        &self,
-        rt: &R,
-        server: &mut Self::Server,
-        ep: u32,
-    ) -> Option<(UrbId, Transfer)>
+    fn take<R: Wait>(&self, rt: &R, server: &mut Self::Server, ep: u32) -> Option<(UrbId, Transfer)>
         requires here { Self.is_of self.now (Self.Server.own server.old) }
         requires whole { IsWholeServer (Self.machine self.now) (Self.known (Self.Server.own server.old)) (Self.Server.pending server.old) (Self.Server.given server.old) (Self.Server.has_room server.old) }
         requires end { ep < length (Self.machine self.now).layout.shapes }
@@ -94,13 +90,7 @@ pub trait Serves: Host {
         ensures given { ((Self.Given.told result).urb ≡ urb.0) × ((Self.Given.told result).transfer ≡ Some t) };
 
     /// Leaves a transfer to rest with a given URB, by its handler.
-    fn rest<R: Wait>(
-        &self,
-        rt: &R,
-        server: &mut Self::Server,
-        given: &mut Self::Given,
-        t: Transfer,
-    )
+    fn rest<R: Wait>(&self, rt: &R, server: &mut Self::Server, given: &mut Self::Given, t: Transfer)
         requires here { Self.is_of self.now (Self.Server.own server.old) }
         requires whole { IsWholeServer (Self.machine self.now) (Self.known (Self.Server.own server.old)) (Self.Server.pending server.old) (Self.Server.given server.old) (Self.Server.has_room server.old) }
         requires urb { IsUrb (Self.machine self.now) (Self.Given.told given.old).urb }

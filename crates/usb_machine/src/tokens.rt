@@ -42,6 +42,7 @@ pub trait HubToken: Token {
 
     /// Another pass leaves the flags.
     ghost keeps_flags: { (t : Self) (p : Self.Pass) (u : ℕ) → flags (Self.with_own t p) u ≡ flags t u };
+
     ghost keeps_room: { (t : Self) (p : Self.Pass) (g : Machine) → has_room t g → has_room (Self.with_own t p) g };
 }
 
@@ -67,7 +68,9 @@ pub trait ServerToken: Token {
 
     /// Another pass leaves what is stored.
     ghost keeps_pending: { (t : Self) (p : Self.Pass) (e : ℕ) → pending (Self.with_own t p) e ≡ pending t e };
+
     ghost keeps_given: { (t : Self) (p : Self.Pass) → given (Self.with_own t p) ≡ given t };
+
     ghost keeps_room: { (t : Self) (p : Self.Pass) (g : Machine) → has_room t g → has_room (Self.with_own t p) g };
 }
 

@@ -1,5 +1,5 @@
 -- What the closing of turns says of two passes, and of as many as there are.
-use Rattle.std.proofs.Common.{◌≡◌, ℕ, zero, suc, ◌<◌, List, [], ◌∷◌, All, Any, false, sym, refl, ap, subst, ◌∙◌, arith, length, get_or, ◌+◌}
+use Rattle.std.proofs.Common.{◌≡◌, ℕ, zero, suc, ◌<◌, List, [], ◌∷◌, All, Any, false, refl, ap, subst, ◌∙◌, arith, length, get_or}
 use Rattle.std.proofs.lemmas.List.Elements.{All-cons, All-nil}
 use Rattle.atomic_table.specs.Seated.{TableId}
 use Rattle.usb_turn.specs.Rows.{part}

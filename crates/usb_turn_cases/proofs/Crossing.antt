@@ -1,7 +1,7 @@
 -- A shared tally may be lent to threads, and its passes may go to them.
 use denote.Param.Send.{IsSend, IsSync, sendable}
 use Rattle.std.proofs.Crossing.{crosses}
-use Rattle.usb_turn.proofs.Crossing.{TurnPass-send, Turns-sync, TurnPass-field-send, Turns-field-sync}
+use Rattle.usb_turn.proofs.Crossing.{TurnPass-send, TurnPass-field-send, Turns-field-sync}
 use Rattle.usb_turn.specs.contracts.turns.TurnPass as TurnPass
 use Rattle.usb_turn.specs.contracts.turns.Turns as Turns
 use Rattle.usb_turn_cases.specs.contracts.tally.Tally as Tally

@@ -1,11 +1,11 @@
 -- A call more keeps a history legal.
-use Rattle.std.proofs.Common.{◌≡◌, false, ℕ, ◌+◌, ◌%◌, ◌^◌, List, [], ◌∷◌, ◌++◌, length, sym, refl, ap, subst, ◌∙◌, arith, length-append}
+use Rattle.std.proofs.Common.{◌≡◌, ℕ, ◌+◌, ◌%◌, ◌^◌, List, [], ◌∷◌, ◌++◌, length, sym, refl, ap, subst, ◌∙◌, arith, length-append}
 use Rattle.usb_turn.proofs.Turning.{mod_more}
 use Rattle.usb_turn.proofs.Turned.{turned}
 use Rattle.usb_turn.specs.Rows.{Begins, part}
 use Rattle.usb_turn.specs.Pass.{Pass, entered, left}
 use Rattle.usb_turn_cases.specs.Ran.{Fresh}
-use Rattle.usb_turn_cases.specs.History.{IsLegal, IsTotalOf, IsTallyOf, total_after, entry, by_of}
+use Rattle.usb_turn_cases.specs.History.{IsLegal, IsTallyOf, total_after, entry, by_of}
 use Rattle.usb_turn_cases.specs.declared.entry.Made.{Made}
 use Rattle.usb_turn_cases.specs.declared.entry.Entry.{Entry}
 

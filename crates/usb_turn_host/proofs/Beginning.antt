@@ -1,5 +1,5 @@
 -- New passes, from the front and from the back.
-use Rattle.std.proofs.Common.{◌≡◌, ℕ, zero, suc, ◌+◌, List, [], ◌∷◌, ◌++◌, sym, refl, ap, ◌∙◌, subst, arith, append_assoc, ◌<◌, ◌≤◌, Bool, true, false, Option, Some, None, All, length, map, slice_get, get_or}
+use Rattle.std.proofs.Common.{◌≡◌, ℕ, zero, suc, ◌+◌, List, [], ◌∷◌, ◌++◌, sym, refl, ap, ◌∙◌, subst, arith, ◌<◌, ◌≤◌, Bool, true, false, Option, Some, None, All, length, map, slice_get, get_or}
 use Rattle.std.specs.Prelude.{replicate}
 use Rattle.std.proofs.lemmas.Option.{slice_get_within, get_or_from_slice_get}
 use Rattle.std.proofs.lemmas.List.Elements.{All-nil, All-cons}
@@ -10,14 +10,13 @@ use Rattle.usb_machine.specs.declared.state.Flags.{Flags}
 use Rattle.usb_machine.specs.State.{no_flags}
 use Rattle.usb_machine.specs.History.{Machine}
 use Rattle.usb_machine.specs.Laws.{total, bit}
-use Rattle.usb_machine.specs.Legal.{IsLegal, empty}
+use Rattle.usb_machine.specs.Legal.{empty}
 use Rattle.usb_machine.specs.Queues.{HomeIsBelow, is_at, homed_at}
 use Rattle.usb_machine.specs.Tokens.{IsWholeHub, IsWholeServer, unused, unused_from}
 use Rattle.usb_turn_host.specs.Turning.{IsOf, known_of}
 use Rattle.usb_turn_host.specs.Server.{pending_at, items_of, room_of, HasRooms}
 use Rattle.atomic_table.specs.Seated.{TableId}
-use Rattle.usb_turn.specs.Pass.{Pass, fresh, dealt}
-use Rattle.usb_machine.specs.declared.entry.Entry.{Entry}
+use Rattle.usb_turn.specs.Pass.{fresh, dealt}
 use Rattle.usb_machine.specs.declared.layout.Layout.{Layout}
 use Rattle.usb_turn_host.specs.declared.stock.Setup.{Setup}
 use Rattle.usb_turn_host.specs.Stock.{IsSetup, machine_of}

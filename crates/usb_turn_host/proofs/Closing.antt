@@ -1,12 +1,11 @@
 -- The tokens' passes and the others, in the order of the host and in that of the turns.
-use Rattle.std.proofs.Common.{◌≡◌, ℕ, zero, suc, ◌+◌, ◌<◌, ◌⊎◌, inl, inr, ⊎_elim, List, [], ◌∷◌, ◌++◌, length, map, All, Any, sym, refl, ap, ◌∙◌, subst, arith, false, get_or}
-use Rattle.std.proofs.lemmas.List.Elements.{All-push, All-cons, All-map, All-head, All-tail}
+use Rattle.std.proofs.Common.{◌≡◌, ℕ, zero, suc, ◌<◌, ◌⊎◌, inl, inr, ⊎_elim, List, [], ◌∷◌, ◌++◌, length, map, All, Any, sym, refl, subst, arith, false, get_or}
+use Rattle.std.proofs.lemmas.List.Elements.{All-push, All-cons, All-map}
 use Rattle.atomic_table.specs.Seated.{TableId}
 use Rattle.usb_turn.specs.Rows as rows
 use Rattle.usb_turn.specs.Pass.{Pass, AllOf, Closes}
 use Rattle.usb_turn.proofs.Gathering.{all_front}
 use Rattle.usb_machine.specs.declared.entry.Entry.{Entry}
-use Rattle.usb_machine.specs.History.{Machine}
 use Rattle.usb_machine.specs.Parts.{part_of}
 use Rattle.usb_machine.specs.Legal.{IsLegal}
 use Rattle.usb_machine.specs.Fresh.{Known, Begins}

@@ -1,10 +1,9 @@
 -- The hub's token after a flag.
-use Rattle.std.proofs.Common.{◌≡◌, ◌≢◌, ℕ, ◌<◌, ◌≤◌, Bool, true, false, cond, eqb, List, [], ◌∷◌, ◌++◌, length, get_or, set, Option, Some, None, sym, refl, ap, ◌∙◌, subst, arith, eqb-true, eq-eqb, length-set}
+use Rattle.std.proofs.Common.{◌≡◌, ◌≢◌, ℕ, ◌<◌, ◌≤◌, Bool, true, false, cond, eqb, List, [], ◌∷◌, ◌++◌, length, get_or, set, sym, refl, ap, ◌∙◌, subst, arith, eqb-true, eq-eqb, length-set}
 use Rattle.std.proofs.lemmas.List.{get_or-set_same, get_or-set_other}
 use Rattle.usb_types.specs.declared.urb.Flag.{Flag as FlagName}
 use Rattle.usb_machine.specs.declared.entry.TheConstants.{HUB}
 use Rattle.usb_machine.specs.declared.entry.Entry.{Entry}
-use Rattle.usb_machine.specs.declared.event.Event.{Event}
 use Rattle.usb_machine.specs.declared.state.Flags.{Flags}
 use Rattle.usb_machine.specs.declared.pass_row.Held.{Held}
 use Rattle.usb_machine.specs.State.{has_flag, with_flag, no_flags}

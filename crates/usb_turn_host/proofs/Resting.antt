@@ -1,8 +1,7 @@
 -- A stock whose URB rests a transfer, sends one, or is claimed.
-use Rattle.std.proofs.Common.{◌≡◌, ◌≢◌, ℕ, ◌+◌, ◌%◌, ◌^◌, ◌<◌, Bool, true, false, not, cond, eqb, List, [], ◌∷◌, ◌++◌, length, Option, Some, None, Vec, sym, refl, ap, ◌∙◌, subst, arith, slice_get, set, length-set, eqb-true, ne_eqb, eq-eqb}
+use Rattle.std.proofs.Common.{◌≡◌, ◌≢◌, ℕ, ◌+◌, ◌%◌, ◌^◌, ◌<◌, Bool, true, false, cond, eqb, List, [], ◌∷◌, ◌++◌, length, Option, Some, None, sym, refl, ap, ◌∙◌, subst, slice_get, set, length-set, eqb-true, eq-eqb}
 use Rattle.std.specs.Vec.{with_item}
 use Rattle.circular_buffer.proofs.Places.{slice_get-set_same, slice_get-set_other}
-use Rattle.usb_types.specs.declared.errno.Code.{Code}
 use Rattle.usb_types.specs.declared.errno.Code.TheVariants.{Zero, Fault}
 use Rattle.usb_machine.specs.declared.transfer.Transfer.{Transfer}
 use Rattle.usb_machine.specs.declared.event.Event.{Event}
@@ -14,8 +13,8 @@ use Rattle.usb_machine.specs.declared.state.UrbState.{UrbState}
 use Rattle.usb_machine.specs.declared.state.Mark.TheVariants.{Clear}
 use Rattle.usb_types.specs.declared.errno.Errno.{Errno}
 use Rattle.usb_machine.specs.declared.plain.Plain.{Plain}
-use Rattle.usb_machine.specs.State.{after, unlinks, finishes, accepted, is_zero}
-use Rattle.usb_machine.specs.History.{Machine, home_of, is_of, state_of, pending_of, pending_after, sent_of, sent_after}
+use Rattle.usb_machine.specs.State.{after, unlinks, finishes, accepted}
+use Rattle.usb_machine.specs.History.{Machine, home_of, is_of, state_of, pending_of, sent_of}
 use Rattle.usb_machine.specs.Legal.{times, IsLegal, empty, longer, Carries}
 use Rattle.usb_machine.specs.Plain.{Stands, urbs_of}
 use Rattle.usb_machine.specs.Calls.{entry}

@@ -1,5 +1,5 @@
 -- The server's token after a Take and a Give.
-use Rattle.std.proofs.Common.{◌≡◌, ◌≢◌, ℕ, ◌+◌, ◌<◌, ◌≤◌, Bool, true, false, cond, eqb, List, [], ◌∷◌, ◌++◌, length, get_or, set, slice_get, fold, Option, Some, None, sym, refl, ap, ◌∙◌, subst, arith, eqb-true, eq-eqb, length-set, append-nil}
+use Rattle.std.proofs.Common.{◌≡◌, ◌≢◌, ℕ, ◌+◌, ◌<◌, ◌≤◌, Bool, true, false, cond, eqb, List, [], ◌∷◌, ◌++◌, length, get_or, set, slice_get, fold, Option, Some, None, sym, refl, ap, ◌∙◌, subst, arith, eqb-true, eq-eqb, length-set}
 use Rattle.std.proofs.lemmas.Option.{slice_get-get_or}
 use Rattle.std.proofs.lemmas.List.{append_cancel_right}
 use Rattle.std.proofs.lemmas.List.Sums.{fold-append}
@@ -7,12 +7,11 @@ use Rattle.circular_buffer.specs.Buffer.{Buffer, buffer}
 use Rattle.circular_buffer.proofs.Places.{slice_get-set_same, slice_get-set_other}
 use Rattle.usb_types.specs.declared.errno.Code.{Code}
 use Rattle.usb_types.specs.declared.urb.UrbId.{UrbId}
-use Rattle.usb_machine.specs.declared.entry.TheConstants.{SERVER}
 use Rattle.usb_machine.specs.declared.entry.Entry.{Entry}
 use Rattle.usb_machine.specs.declared.event.Event.{Event}
 use Rattle.usb_machine.specs.declared.event.Event.TheVariants.{Take, Give}
 use Rattle.usb_machine.specs.declared.event.Answer.TheVariants.{Urb, Code as Status}
-use Rattle.usb_machine.specs.History.{Machine, home_of, line_of, pending_of, without}
+use Rattle.usb_machine.specs.History.{Machine, home_of, pending_of, without}
 use Rattle.usb_machine.specs.Parts.{part_of}
 use Rattle.usb_machine.specs.Legal.{IsLegal, Follows}
 use Rattle.usb_machine.specs.Queues.{homed_at}
@@ -93,7 +92,7 @@ module _ (g : Machine) (p q : Known) (e : ℕ) (bs cs : List (Buffer ℕ)) (f : 
         room = record {
           ends = ap length is ∙ (length-set bs e nb ∙ whole.room.ends);
           rooms = λ d l. subst (λ o. homed_at g.layout.homes d ≤ room_of o) (sym (ap (λ xs. slice_get xs d) is ∙ get_if bs e d nb (eqb e d) refl inside))
-          (room_if (eqb e d) nb (slice_get bs d) (homed_at g.layout.homes d) (λ same. subst (λ k. homed_at g.layout.homes k ≤ old.capacity) (eqb-true e d same) (subst (λ o. homed_at g.layout.homes e ≤ room_of o) at (whole.room.rooms e lt))) (whole.room.rooms d l));
+              (room_if (eqb e d) nb (slice_get bs d) (homed_at g.layout.homes d) (λ same. subst (λ k. homed_at g.layout.homes k ≤ old.capacity) (eqb-true e d same) (subst (λ o. homed_at g.layout.homes e ≤ room_of o) at (whole.room.rooms e lt))) (whole.room.rooms d l));
         };
         pending_are = λ d l.
             ap (λ xs. items_of (slice_get xs d)) is ∙ (ap items_of (get_if bs e d nb (eqb e d) refl inside) ∙ (items_if (eqb e d) nb (slice_get bs d)

@@ -1,5 +1,5 @@
 -- A server that was told why a mark stands knows that one stands.
-use Rattle.std.proofs.Common.{◌≡◌, false, Some, None, refl}
+use Rattle.std.proofs.Common.{◌≡◌, false, Some, refl}
 use Rattle.usb_types.specs.declared.urb.Why.{Why}
 use Rattle.usb_machine.specs.declared.state.Mark.{Mark as MarkState}
 use Rattle.usb_machine.specs.declared.state.Mark.TheVariants.{Clear, Unlinked, Finished}

@@ -1,5 +1,5 @@
 -- A stock whose first waiting URB is taken.
-use Rattle.std.proofs.Common.{◌≡◌, ◌≢◌, ℕ, ◌+◌, ◌%◌, ◌^◌, ◌<◌, ◌≤◌, Bool, true, false, cond, eqb, List, [], ◌∷◌, ◌++◌, length, Option, Some, None, sym, refl, ap, ◌∙◌, subst, arith, slice_get, set, length-set, eqb-true, eq-eqb}
+use Rattle.std.proofs.Common.{◌≡◌, ◌≢◌, ℕ, ◌+◌, ◌%◌, ◌^◌, ◌<◌, ◌≤◌, Bool, true, false, cond, eqb, List, [], ◌∷◌, ◌++◌, length, Option, Some, None, sym, refl, ap, ◌∙◌, subst, arith, slice_get, length-set, eq-eqb}
 use mathlib.Core.Logic.{dite}
 use native.Mathlib.Decide.{ℕ_discrete}
 use Rattle.std.specs.Vec.{with_item}
@@ -15,7 +15,7 @@ use Rattle.usb_machine.specs.History.{without}
 use Rattle.usb_machine.specs.declared.state.UrbState.{UrbState}
 use Rattle.usb_machine.specs.declared.plain.Plain.{Plain}
 use Rattle.usb_machine.specs.History.{Machine, home_of, state_of, line_of, pending_of, sent_of}
-use Rattle.usb_machine.specs.Laws.{bit, owing, Placed}
+use Rattle.usb_machine.specs.Laws.{bit, Placed}
 use Rattle.usb_machine.specs.Legal.{times, IsLegal}
 use Rattle.usb_machine.specs.Plain.{Stands, IsNext, urbs_of}
 use Rattle.usb_types.specs.declared.urb.UrbId.{UrbId}

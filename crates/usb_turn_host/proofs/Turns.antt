@@ -1,5 +1,5 @@
 -- What a turn does for its pass.
-use Rattle.std.proofs.Common.{◌≡◌, ℕ, ◌<◌, false, List, [], ◌∷◌, ◌++◌, Option, Some, None, sym, refl, ap, ◌∙◌, subst, append_assoc, append-nil}
+use Rattle.std.proofs.Common.{◌≡◌, ℕ, ◌<◌, List, [], ◌∷◌, ◌++◌, Option, Some, None, sym, refl, ap, ◌∙◌, subst, append_assoc, append-nil}
 use Rattle.std.proofs.Common.{fold}
 use Rattle.std.proofs.lemmas.List.{append_cancel_right}
 use Rattle.std.proofs.lemmas.List.Sums.{fold-append}
@@ -16,14 +16,13 @@ use Rattle.usb_machine.specs.History.{Machine, state_of, line_of}
 use Rattle.usb_machine.specs.Calls.{entry}
 use Rattle.usb_machine.specs.Parts.{part_of}
 use Rattle.usb_machine.specs.Legal.{IsLegal, Carries, May, urb_of, end_of}
-use Rattle.usb_machine.specs.Plain.{IsInside, IsNext, HasRoom, urbs_of, ends_of, Stands}
+use Rattle.usb_machine.specs.Plain.{IsInside, IsNext, HasRoom, Stands}
 use Rattle.usb_machine.specs.Replay.{IsWithin}
 use Rattle.usb_machine.specs.declared.plain.Plain.{Plain}
-use Rattle.usb_machine.specs.Fresh.{Known, Begins, Grown, Sound, EndsWith, Fresh, Looked}
+use Rattle.usb_machine.specs.Fresh.{Grown, Fresh, Looked}
 use Rattle.usb_turn_host.specs.declared.stock.Setup.{Setup}
 use Rattle.usb_turn_host.specs.declared.stock.Stock.{Stock}
-use Rattle.usb_turn_host.specs.declared.stock.Made.{Made}
-use Rattle.usb_turn_host.specs.Stock.{IsStock, IsStill, machine_of, entry_of, made_by, pass_of}
+use Rattle.usb_turn_host.specs.Stock.{IsStock, IsStill, machine_of, entry_of, made_by}
 use Rattle.usb_turn_host.specs.Turning.{IsOf, IsLater, IsAnswered, MayLater, known_of}
 
 pub carries_still : (g : Machine) (e : Event) → IsStill e → Carries g e None
@@ -144,8 +143,7 @@ module _ (id : TableId) (setup : Setup) (p q : Pass Entry) (old new : Stock) (ev
   spin r same stands out_is own' =
       let x : Entry = entry q.number event answer carried in
       let seen_is : r.seen ≡ q.seen ++ x ∷ [] = ap (λ (z : Pass Entry). z.seen) out_is in
-      let legal' : IsLegal machine r.seen = subst (λ l. IsLegal machine l) (sym seen_is) (subst (λ s. IsLegal (machine_of s) (q.seen ++ x ∷ [])) (same ∙ key) stands.plain.legal) in
-      (
+      let legal' : IsLegal machine r.seen = subst (λ l. IsLegal machine l) (sym seen_is) (subst (λ s. IsLegal (machine_of s) (q.seen ++ x ∷ [])) (same ∙ key) stands.plain.legal) in (
         still_of id setup p q r (x ∷ []) here in_is out_is legal' own',
         subst (λ n. Fresh machine (known_of p) (known_of r) (entry n event answer carried ∷ [])) number_is (turned_fresh id setup p q r x in_is begins out_is legal' own'),
         seen_is,
@@ -158,8 +156,7 @@ module _ (id : TableId) (setup : Setup) (p q : Pass Entry) (old new : Stock) (ev
   turn r same stands out_is own' answers =
       let x : Entry = entry q.number event answer carried in
       let seen_is : r.seen ≡ q.seen ++ x ∷ [] = ap (λ (z : Pass Entry). z.seen) out_is in
-      let legal' : IsLegal machine r.seen = subst (λ l. IsLegal machine l) (sym seen_is) (subst (λ s. IsLegal (machine_of s) (q.seen ++ x ∷ [])) (same ∙ key) stands.plain.legal) in
-      (
+      let legal' : IsLegal machine r.seen = subst (λ l. IsLegal machine l) (sym seen_is) (subst (λ s. IsLegal (machine_of s) (q.seen ++ x ∷ [])) (same ∙ key) stands.plain.legal) in (
         still_of id setup p q r (x ∷ []) here in_is out_is legal' own',
         subst (λ n. Fresh machine (known_of p) (known_of r) (entry n event answer carried ∷ [])) number_is (turned_fresh id setup p q r x in_is begins out_is legal' own'),
         record {

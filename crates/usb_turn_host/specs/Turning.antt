@@ -1,11 +1,10 @@
 -- What a pass of the turns is to the host.
-use Rattle.std.specs.Prelude.{◌≡◌, ℕ, ◌<◌, ◌⊎◌, ◌++◌, ◌∷◌, [], false, true, List}
+use Rattle.std.specs.Prelude.{◌≡◌, ◌<◌, ◌++◌, ◌∷◌, [], false, List}
 use Rattle.atomic_table.specs.Seated.{TableId}
 use Rattle.usb_turn.specs.Pass.{Pass}
 use Rattle.usb_machine.specs.declared.entry.Entry.{Entry}
 use Rattle.usb_machine.specs.declared.event.Event.{Event}
 use Rattle.usb_machine.specs.declared.event.Answer.{Answer}
-use Rattle.usb_machine.specs.declared.transfer.Transfer.{Transfer}
 use Rattle.usb_machine.specs.State.{answer_of}
 use Rattle.usb_machine.specs.History.{Machine, state_of, line_of}
 use Rattle.usb_machine.specs.Parts.{part_of}

@@ -11,10 +11,10 @@ use usb_types::{Code, Errno, Flag, UrbId, Why};
 
 impl Host for TurnHost {
     type Pass = TurnPass<Stock>;
+
     type Hub = TurnHub;
 
     ghost use Rattle.usb_turn.specs.Shown.{id_of};
-
     ghost use Rattle.usb_turn_host.specs.Setup.{setup_of};
     ghost use Rattle.usb_turn_host.specs.Stock.{machine_of, IsBusy};
     ghost use Rattle.usb_turn_host.specs.Turning.{IsOf, known_of};
@@ -35,10 +35,7 @@ impl Host for TurnHost {
         t: Transfer,
     ) -> Result<(), Refused> {
         match self.fault(urb, &t) {
-            Some(errno) => Err(Refused {
-                errno,
-                transfer: t,
-            }),
+            Some(errno) => Err(Refused { errno, transfer: t }),
             None => {
                 self.ask(rt, pass, urb, t)?;
                 self.make(rt, pass, Event::Link { urb });
@@ -47,13 +44,7 @@ impl Host for TurnHost {
         }
     }
 
-    fn unlink<R: Wait>(
-        &self,
-        rt: &R,
-        pass: &mut TurnPass<Stock>,
-        urb: UrbId,
-        why: Why,
-    ) -> Errno {
+    fn unlink<R: Wait>(&self, rt: &R, pass: &mut TurnPass<Stock>, urb: UrbId, why: Why) -> Errno {
         match self.make(rt, pass, Event::Mark { urb, why }) {
             Answer::Code(Code::Fault(errno)) => errno,
             _ => unreachable!(),
@@ -90,12 +81,7 @@ impl Host for TurnHost {
 }
 
 impl Meets for TurnHost {
-    fn meet<R: Wait>(
-        &self,
-        _rt: &R,
-        pass: &mut TurnPass<Stock>,
-        other: &mut TurnPass<Stock>,
-    ) {
+    fn meet<R: Wait>(&self, _rt: &R, pass: &mut TurnPass<Stock>, other: &mut TurnPass<Stock>) {
         self.turns.meet(pass, other);
     }
 }

@@ -17,12 +17,12 @@ ghost use Rattle.usb_turn_host.specs.Stock.{machine_of};
 ghost use Rattle.usb_turn_host.specs.Turning.{IsOf, known_of};
 ghost use Rattle.usb_turn_host.specs.Whole.{IsServer};
 
-use crate::host::TurnHost;
 use crate::given::TurnGiven;
+use crate::host::TurnHost;
 use crate::server::TurnServer;
-use usb_machine::{Answer, Event, Look, Transfer};
 use crate::stock::Stock;
 use std::sync::Wait;
+use usb_machine::{Answer, Event, Look, Transfer};
 use usb_turn::TurnPass;
 use usb_types::{Code, UrbId, Why};
 

@@ -18,11 +18,11 @@ ghost use Rattle.usb_turn_host.specs.Setup.{setup_of};
 ghost use Rattle.usb_turn_host.specs.Stock.{IsStill, machine_of};
 ghost use Rattle.usb_turn_host.specs.Turning.{IsOf, MayLater, IsAnswered, known_of};
 
+use crate::hub::TurnHub;
+use crate::server::TurnServer;
 use crate::stock::Stock;
 use std::sync::Wait;
 use usb_machine::{Answer, Event, Layout, Refused, Transfer, shape_fault};
-use crate::hub::TurnHub;
-use crate::server::TurnServer;
 use usb_turn::{Ended, TurnPass, Turns};
 use usb_types::{Errno, UrbId};
 

@@ -89,5 +89,6 @@ impl HubToken for TurnHub {
     }
 
     ghost keeps_flags = { λ t p u. refl };
+
     ghost keeps_room = { λ t p g h. h };
 }

@@ -42,7 +42,11 @@ fn buffers(
 fn flags(alloc: Global, count: usize) -> Result<Vec<Flags>, AllocError>
     ensures { IfOk result (λ v. v.items ≡ replicate count no_flags) }
 {
-    vec![in alloc; Flags { gone: false, off: false, down: false }; count]
+    vec![in alloc; Flags {
+        gone: false,
+        off: false,
+        down: false
+    }; count]
 }
 
 /// The turns and their passes: the first two, and the others in order.
@@ -50,7 +54,15 @@ fn turns(
     alloc: Global,
     layout: &Layout,
     passes: u32,
-) -> Result<(Turns<Stock>, TurnPass<Stock>, TurnPass<Stock>, Vec<TurnPass<Stock>>), Memory>
+) -> Result<
+    (
+        Turns<Stock>,
+        TurnPass<Stock>,
+        TurnPass<Stock>,
+        Vec<TurnPass<Stock>>,
+    ),
+    Memory,
+>
     requires passes { (0 < passes) × (passes ≤ 64) }
     requires layout { IsLayout layout.now }
     ensures key { IfOk result (λ r. IsSetup layout.now passes (setup_of r.0)) }
@@ -123,12 +135,7 @@ impl Opens for TurnHost {
         Ok(parts)
     }
 
-    fn close(
-        self,
-        server: TurnServer,
-        hub: TurnHub,
-        passes: Vec<TurnPass<Stock>>,
-    ) -> Ended<Stock>
+    fn close(self, server: TurnServer, hub: TurnHub, passes: Vec<TurnPass<Stock>>) -> Ended<Stock>
         requires here { IsOf (id_of self.turns) (setup_of self.turns) server.pass × IsOf (id_of self.turns) (setup_of self.turns) hub.pass × All (IsOf (id_of self.turns) (setup_of self.turns)) passes.items }
         requires all { AreAll (machine_of (setup_of self.turns)) (known_of server.pass ∷ known_of hub.pass ∷ map known_of passes.items) }
         requires quiet { OneKeeps (machine_of (setup_of self.turns)) (known_of server.pass ∷ known_of hub.pass ∷ map known_of passes.items) }

@@ -60,7 +60,9 @@ impl ServerToken for TurnServer {
     }
 
     ghost keeps_pending = { λ t p e. refl };
+
     ghost keeps_given = { λ t p. refl };
+
     ghost keeps_room = { λ t p g h. h };
 }
 

@@ -10,6 +10,7 @@ use usb_types::{Code, UrbId};
 
 impl Serves for TurnHost {
     type Server = TurnServer;
+
     type Given = TurnGiven;
 
     ghost use Rattle.std.specs.Prelude.{◌≡◌, [], false};
@@ -24,12 +25,7 @@ impl Serves for TurnHost {
 
     ghost is_settled = { λ h s u. is_clear (state_of s.pass.seen u).mark ≡ false };
 
-    fn take<R: Wait>(
-        &self,
-        rt: &R,
-        server: &mut TurnServer,
-        ep: u32,
-    ) -> Option<(UrbId, Transfer)> {
+    fn take<R: Wait>(&self, rt: &R, server: &mut TurnServer, ep: u32) -> Option<(UrbId, Transfer)> {
         TurnHost::take(self, rt, server, ep)
     }
 
@@ -41,23 +37,11 @@ impl Serves for TurnHost {
         TurnHost::finish(self, rt, server, urb, code)
     }
 
-    fn give<R: Wait>(
-        &self,
-        rt: &R,
-        server: &mut TurnServer,
-        urb: UrbId,
-        t: Transfer,
-    ) -> TurnGiven {
+    fn give<R: Wait>(&self, rt: &R, server: &mut TurnServer, urb: UrbId, t: Transfer) -> TurnGiven {
         TurnHost::give(self, rt, server, urb, t)
     }
 
-    fn rest<R: Wait>(
-        &self,
-        rt: &R,
-        server: &mut TurnServer,
-        given: &mut TurnGiven,
-        t: Transfer,
-    ) {
+    fn rest<R: Wait>(&self, rt: &R, server: &mut TurnServer, given: &mut TurnGiven, t: Transfer) {
         TurnHost::rest(self, rt, server, given.urb, t);
     }
 

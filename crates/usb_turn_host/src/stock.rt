@@ -1,11 +1,11 @@
 //! The machine with its transfers, for one caller at a time.
 ghost use Rattle.std.specs.Prelude.{◌≡◌, ℕ, ◌<◌, IsTrue, IsFalse, IfSome, IfNone, IfOk, ◌≤◌, replicate, length, List, [], ◌∷◌, ◌++◌, Option, Some, None};
 
+use std::alloc::{AllocError, Global};
 use std::snapshot::Snapshot;
 use usb_machine::{Answer, Entry, Event, Layout, Plain, Refused, SERVER, Transfer};
-use std::alloc::{AllocError, Global};
-use usb_types::{Code, Memory, UrbId, Why};
 use usb_turn::Kept;
+use usb_types::{Code, Memory, UrbId, Why};
 
 /// What never changes of a stock: its layout, and how many passes there are beside the server's and the hub's.
 #[derive(Drop)]
@@ -45,6 +45,7 @@ fn none_each(alloc: Global, count: usize) -> Result<Vec<Option<Transfer>>, Alloc
 
 impl Kept for Stock {
     type Row = Entry;
+
     type Key = Setup;
 
     ghost use Rattle.usb_turn_host.specs.Stock.{IsStock, made_by, pass_of};
@@ -186,10 +187,7 @@ impl Stock {
             carried: Some(Snapshot::of(&t)),
         });
         match answer {
-            Answer::Code(Code::Fault(errno)) => Err(Refused {
-                errno,
-                transfer: t,
-            }),
+            Answer::Code(Code::Fault(errno)) => Err(Refused { errno, transfer: t }),
             _ => {
                 self.flight[urb.0 as usize] = Some(t);
                 Ok(())

@@ -1,4 +1,4 @@
-use Rattle.std.proofs.Common.{◌≡◌, ◌⊎◌, inl, inr, ⊎_elim, List, [], ◌∷◌, ◌++◌, length, subst, sym, ap, ◌∙◌}
+use Rattle.std.proofs.Common.{inl, inr, ⊎_elim, subst, ◌∙◌}
 use Rattle.std.proofs.lemmas.List.{length-map}
 use Rattle.usb_types.specs.declared.urb.UrbId.{UrbId}
 use Rattle.usb_types.specs.declared.urb.Why.TheVariants.{Shutdown}
@@ -21,6 +21,10 @@ returns-clause-fresh g c =
     let rests = numbers_of c.settle_all.new.rests in
     let marks = subst (λ n. Grown q r (marks_of n Shutdown (ids us) m.answers)) c.flag_all.ensures.grown.number m.grown in
     ⊎_elim (λ none. inl none)
-    (λ last. inr (m.answers, m.each ∙ length-map us (λ (u : UrbId). u.0), flushed (g.H.Host.machine c.args.host.now) p q r t (flags_of p.number c.args.flag (ids us)) (marks_of p.number Shutdown (ids us) m.answers) (λ n. claims_of n (ids us) rests)
-        c.flag_all.ensures.grown marks c.settle_all.ensures.grown last.0 last.1))
+    (λ last. inr (
+      m.answers,
+      m.each ∙ length-map us (λ (u : UrbId). u.0),
+      flushed (g.H.Host.machine c.args.host.now) p q r t (flags_of p.number c.args.flag (ids us)) (marks_of p.number Shutdown (ids us) m.answers) (λ n. claims_of n (ids us) rests)
+          c.flag_all.ensures.grown marks c.settle_all.ensures.grown last.0 last.1,
+    ))
     c.settle_all.ensures.last

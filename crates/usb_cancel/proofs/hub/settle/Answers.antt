@@ -1,4 +1,4 @@
-use Rattle.std.proofs.Common.{◌≡◌, List, [], ◌∷◌, ◌++◌, Option, Some, None, subst, sym, ap, ◌∙◌}
+use Rattle.std.proofs.Common.{[], ◌∷◌, None}
 use Rattle.usb_machine.specs.declared.event.Event.TheVariants.{Quiet, Claim}
 use Rattle.usb_machine.specs.declared.event.Answer.TheVariants.{Number}
 use Rattle.usb_machine.specs.Calls.{entry, plain_entry}

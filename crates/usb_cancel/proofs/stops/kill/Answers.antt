@@ -1,4 +1,4 @@
-use Rattle.std.proofs.Common.{◌≡◌, true, List, [], ◌∷◌, ◌++◌, subst, sym, ap, ◌∙◌, rules}
+use Rattle.std.proofs.Common.{[], ◌∷◌}
 use Rattle.usb_machine.specs.declared.event.Event.TheVariants.{Withdraw}
 use Rattle.usb_machine.specs.Calls.{plain_entry, poison_entries}
 use Rattle.usb_machine.specs.HostCalls.{number_of}

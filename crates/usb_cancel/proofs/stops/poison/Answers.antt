@@ -1,4 +1,4 @@
-use Rattle.std.proofs.Common.{◌≡◌, true, List, [], ◌∷◌, ◌++◌, Some, None, subst, sym, ap, ◌∙◌, rules}
+use Rattle.std.proofs.Common.{[], ◌∷◌, None}
 use Rattle.usb_types.specs.declared.errno.Code.TheVariants.{Fault}
 use Rattle.usb_types.specs.declared.urb.Why.TheVariants.{Kill}
 use Rattle.usb_machine.specs.declared.event.Event.TheVariants.{Reject, Quiet, Claim}

@@ -1,4 +1,4 @@
-use Rattle.std.proofs.Common.{◌≡◌, List, [], ◌∷◌, ap, ◌∙◌, sym, subst}
+use Rattle.std.proofs.Common.{List, ap, ◌∙◌, sym, subst}
 use Rattle.usb_turn.specs.Pass.{AllOf, Closes}
 use Rattle.usb_turn_cases.specs.History.{IsTallyOf, by_of}
 use Rattle.usb_turn_cases.specs.declared.entry.Entry.{Entry}

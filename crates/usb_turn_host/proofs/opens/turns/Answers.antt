@@ -1,7 +1,5 @@
-use Rattle.std.proofs.Common.{◌≡◌, ◌<◌, ◌+◌, List, [], ◌∷◌, sym, ap, ◌∙◌, subst, length, arith, get_or, drop}
+use Rattle.std.proofs.Common.{◌<◌, sym, ap, ◌∙◌, subst, length, arith, get_or, drop}
 use Rattle.usb_turn.specs.Shown.{id_of}
-use Rattle.usb_turn.specs.Pass.{fresh}
-use Rattle.usb_turn_host.specs.Opening.{fresh_from}
 use Rattle.usb_turn_host.specs.Stock.{IsSetup}
 use Rattle.usb_turn_host.specs.declared.stock.Stock.{Stock}
 use Rattle.usb_turn_host.proofs.Beginning.{dealt_two}
@@ -17,8 +15,7 @@ remove-first-requires c =
 
 pub returns-clause-first : goal.returns-clause-first
 returns-clause-first c =
-    let two = c.in-Ok.ensures.2 ∙ dealt_two (id_of c.in-Ok.turns) c.args.passes in
-    (
+    let two = c.in-Ok.ensures.2 ∙ dealt_two (id_of c.in-Ok.turns) c.args.passes in (
       c.remove-first.ensures.value ∙ ap (λ l. get_or l 0 c.remove-first.result) two,
       c.remove-second.ensures.value ∙ ap (λ l. get_or l 0 c.remove-second.result) (c.remove-first.ensures.items ∙ ap (drop 1) two),
     )

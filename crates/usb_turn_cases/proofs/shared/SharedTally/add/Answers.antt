@@ -1,4 +1,4 @@
-use Rattle.std.proofs.Common.{◌≡◌, ◌+◌, ◌%◌, ◌^◌, ap, ◌∙◌, sym}
+use Rattle.std.proofs.Common.{◌+◌, ◌%◌, ◌^◌, ap, ◌∙◌, sym}
 use Rattle.usb_turn_cases.specs.History.{entry}
 use Rattle.usb_turn_cases.proofs.Legal.{tally_more, called}
 use Rattle.usb_turn_cases.proofs.shared.SharedTally.add.Goals as goal

@@ -1,4 +1,4 @@
-use Rattle.std.proofs.Common.{◌≡◌, true, false, List, [], ◌∷◌, ◌++◌, Option, Some, None, subst, sym, refl, ap, ◌∙◌, get_or}
+use Rattle.std.proofs.Common.{true, false, None, refl, ap, ◌∙◌, get_or}
 use Rattle.usb_machine.specs.declared.event.Event.TheVariants.{Flag}
 use Rattle.usb_machine.specs.State.{no_flags}
 use Rattle.usb_machine.specs.Calls.{entry}

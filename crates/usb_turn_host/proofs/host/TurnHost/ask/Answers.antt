@@ -1,15 +1,13 @@
-use Rattle.std.proofs.Common.{◌≡◌, true, List, [], ◌∷◌, ◌++◌, Option, Some, None, subst, sym, refl, ap, ◌∙◌, rules}
-use Rattle.usb_machine.specs.declared.event.Event.TheVariants.{Submit, Quiet, Claim}
-use Rattle.usb_machine.specs.declared.event.Answer.TheVariants.{Code as Status, Number}
-use Rattle.usb_machine.specs.History.{Machine}
-use Rattle.usb_machine.specs.Parts.{keeps}
+use Rattle.std.proofs.Common.{◌≡◌, [], ◌∷◌, ◌++◌, Some, subst, sym, refl, ap, ◌∙◌}
+use Rattle.usb_machine.specs.declared.event.Event.TheVariants.{Submit}
+use Rattle.usb_machine.specs.declared.event.Answer.TheVariants.{Code as Status}
 use Rattle.usb_machine.specs.Calls.{entry}
-use Rattle.usb_machine.specs.HostCalls.{rested_of, number_of, answer_of_submit}
+use Rattle.usb_machine.specs.HostCalls.{answer_of_submit}
 use Rattle.usb_turn.specs.Pass.{left}
 use Rattle.usb_turn.specs.Shown.{id_of}
 use Rattle.usb_turn_host.specs.Setup.{setup_of}
-use Rattle.usb_turn_host.specs.Stock.{IsStock, machine_of, made_by}
-use Rattle.usb_turn_host.proofs.Turns.{moves, spin, named, snoc_front}
+use Rattle.usb_turn_host.specs.Stock.{IsStock, made_by}
+use Rattle.usb_turn_host.proofs.Turns.{moves, spin}
 use Rattle.usb_turn_host.proofs.host.TurnHost.ask.Goals as goal
 
 pub leave-requires-clause-stands : goal.leave-requires-clause-stands
@@ -23,7 +21,7 @@ leave-requires-clause-stands g c =
     let answer = Status (answer_of_submit c.submit-asked.result) in
     let r = c.requires.transfer in
     let stands = moves (id_of c.args.self.now.turns) setup p q c.enter-stock.result new event answer (Some c.args.t) c.requires.here e.same e.begins e.own e.stands e.key
-        c.number.result c.number.ensures (λ h l. (c.requires.home, tt)) (refl, r.0, r.1, r.2) c.submit-asked.ensures.stands in
+    c.number.result c.number.ensures (λ h l. (c.requires.home, tt)) (refl, r.0, r.1, r.2) c.submit-asked.ensures.stands in
     let made = subst (λ n. made_by n new ≡ entry n event answer (Some c.args.t) ∷ []) c.number.ensures (c.submit-asked.ensures.made q.seen e.stands) in
     subst (λ l. IsStock new (q.seen ++ l)) (sym made) stands
 
@@ -38,7 +36,7 @@ returns-clause-here g c =
     let answer = Status (answer_of_submit c.submit-asked.result) in
     let r = c.requires.transfer in
     let stands = moves (id_of c.args.self.now.turns) setup p q c.enter-stock.result new event answer (Some c.args.t) c.requires.here e.same e.begins e.own e.stands e.key
-        c.number.result c.number.ensures (λ h l. (c.requires.home, tt)) (refl, r.0, r.1, r.2) c.submit-asked.ensures.stands in
+    c.number.result c.number.ensures (λ h l. (c.requires.home, tt)) (refl, r.0, r.1, r.2) c.submit-asked.ensures.stands in
     let made = subst (λ n. made_by n new ≡ entry n event answer (Some c.args.t) ∷ []) c.number.ensures (c.submit-asked.ensures.made q.seen e.stands) in
     (spin (id_of c.args.self.now.turns) setup p q c.enter-stock.result new event answer (Some c.args.t) c.requires.here e.same e.begins e.own e.stands e.key
     c.leave.new.pass c.submit-asked.ensures.setup stands (c.leave.ensures.same ∙ ap (left q) made) c.leave.ensures.own).0
@@ -54,7 +52,7 @@ returns-clause-fresh g c =
     let answer = Status (answer_of_submit c.submit-asked.result) in
     let r = c.requires.transfer in
     let stands = moves (id_of c.args.self.now.turns) setup p q c.enter-stock.result new event answer (Some c.args.t) c.requires.here e.same e.begins e.own e.stands e.key
-        c.number.result c.number.ensures (λ h l. (c.requires.home, tt)) (refl, r.0, r.1, r.2) c.submit-asked.ensures.stands in
+    c.number.result c.number.ensures (λ h l. (c.requires.home, tt)) (refl, r.0, r.1, r.2) c.submit-asked.ensures.stands in
     let made = subst (λ n. made_by n new ≡ entry n event answer (Some c.args.t) ∷ []) c.number.ensures (c.submit-asked.ensures.made q.seen e.stands) in
     (spin (id_of c.args.self.now.turns) setup p q c.enter-stock.result new event answer (Some c.args.t) c.requires.here e.same e.begins e.own e.stands e.key
     c.leave.new.pass c.submit-asked.ensures.setup stands (c.leave.ensures.same ∙ ap (left q) made) c.leave.ensures.own).1

@@ -1,4 +1,4 @@
-use Rattle.std.proofs.Common.{◌≡◌, refl}
+use Rattle.std.proofs.Common.{refl}
 use Rattle.usb_turn_host.specs.Setup.{setup_of}
 use Rattle.usb_turn_host.specs.Stock.{machine_of}
 use Rattle.usb_turn_host.specs.Turning.{known_of}

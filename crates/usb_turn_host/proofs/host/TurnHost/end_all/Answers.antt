@@ -1,4 +1,4 @@
-use Rattle.std.proofs.Common.{◌≡◌, List, subst}
+use Rattle.std.proofs.Common.{subst}
 use Rattle.usb_machine.specs.Legal.{IsLegal}
 use Rattle.usb_turn.specs.Shown.{id_of, passes_of}
 use Rattle.usb_turn_host.specs.Setup.{setup_of}

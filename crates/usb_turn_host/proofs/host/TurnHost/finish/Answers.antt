@@ -1,4 +1,4 @@
-use Rattle.std.proofs.Common.{◌≡◌, subst, sym}
+use Rattle.std.proofs.Common.{subst, sym}
 use Rattle.usb_machine.specs.History.{home_of}
 use Rattle.usb_machine.specs.Legal.{IsFirst}
 use Rattle.usb_turn_host.specs.Setup.{setup_of}

@@ -1,4 +1,4 @@
-use Rattle.std.proofs.Common.{◌≡◌, ◌<◌, ◌+◌, List, Option, Some, None, get_or, slice_get, length, ap, ◌∙◌, sym, subst}
+use Rattle.std.proofs.Common.{◌<◌, None, get_or, length, ap, ◌∙◌, sym, subst}
 use Rattle.usb_machine.specs.declared.layout.Layout.{Layout}
 use Rattle.usb_machine.specs.History.{or_zero}
 use Rattle.usb_turn_host.specs.Setup.{setup_of}

@@ -1,15 +1,14 @@
-use Rattle.std.proofs.Common.{◌≡◌, ◌<◌, ◌^◌, List, [], ◌∷◌, ◌++◌, Option, Some, None, subst, sym, refl, ap, ◌∙◌}
+use Rattle.std.proofs.Common.{◌≡◌, ◌<◌, ◌^◌, ◌++◌, None, subst, sym, refl, ap, ◌∙◌}
 use Rattle.usb_machine.specs.declared.entry.Entry.{Entry}
 use Rattle.usb_machine.specs.declared.entry.TheConstants.{SERVER}
 use Rattle.usb_machine.specs.declared.event.Event.TheVariants.{Give}
 use Rattle.usb_machine.specs.declared.event.Answer.TheVariants.{Code as Status}
 use Rattle.usb_machine.specs.History.{home_of}
 use Rattle.usb_machine.specs.Legal.{times}
-use Rattle.usb_machine.specs.Calls.{entry}
 use Rattle.usb_turn.specs.Pass.{Pass, left}
 use Rattle.usb_turn.specs.Shown.{id_of}
 use Rattle.usb_turn_host.specs.Setup.{setup_of}
-use Rattle.usb_turn_host.specs.Stock.{IsStock, machine_of, made_by, entry_of}
+use Rattle.usb_turn_host.specs.Stock.{IsStock, machine_of}
 use Rattle.usb_turn_host.specs.Turning.{known_of}
 use Rattle.usb_turn_host.proofs.Turns.{moves, spin, named}
 use Rattle.usb_turn_host.proofs.Later.{pending_later, marked_later, few_later}
@@ -26,7 +25,7 @@ leave-requires-clause-stands g c =
     let event = Give c.args.urb in
     let answer = Status c.give-code.result in
     let stands = moves (id_of c.args.self.now.turns) setup p q c.enter-stock.result new event answer None c.requires.here e.same e.begins e.own e.stands e.key
-        SERVER (sym number) (λ h l. ((c.requires.server, subst (λ us. 0 < times c.args.urb.0 us) (sym (pending_later (machine_of setup) (known_of p) h c.requires.server l (home_of (machine_of setup) c.args.urb.0))) c.requires.pending, marked_later (machine_of setup) (known_of p) h c.requires.server l c.args.urb.0 c.requires.here.own c.requires.marked), few_later (machine_of setup) (known_of p) h c.requires.server l c.args.urb.0 (2 ^ 63) c.requires.few)) refl c.give-code.ensures.stands in
+    SERVER (sym number) (λ h l. ((c.requires.server, subst (λ us. 0 < times c.args.urb.0 us) (sym (pending_later (machine_of setup) (known_of p) h c.requires.server l (home_of (machine_of setup) c.args.urb.0))) c.requires.pending, marked_later (machine_of setup) (known_of p) h c.requires.server l c.args.urb.0 c.requires.here.own c.requires.marked), few_later (machine_of setup) (known_of p) h c.requires.server l c.args.urb.0 (2 ^ 63) c.requires.few)) refl c.give-code.ensures.stands in
     let made = named q.number new event answer c.give-code.ensures.made in
     subst (λ l. IsStock new (q.seen ++ l)) (sym made) stands
 
@@ -41,7 +40,7 @@ returns-clause-here g c =
     let event = Give c.args.urb in
     let answer = Status c.give-code.result in
     let stands = moves (id_of c.args.self.now.turns) setup p q c.enter-stock.result new event answer None c.requires.here e.same e.begins e.own e.stands e.key
-        SERVER (sym number) (λ h l. ((c.requires.server, subst (λ us. 0 < times c.args.urb.0 us) (sym (pending_later (machine_of setup) (known_of p) h c.requires.server l (home_of (machine_of setup) c.args.urb.0))) c.requires.pending, marked_later (machine_of setup) (known_of p) h c.requires.server l c.args.urb.0 c.requires.here.own c.requires.marked), few_later (machine_of setup) (known_of p) h c.requires.server l c.args.urb.0 (2 ^ 63) c.requires.few)) refl c.give-code.ensures.stands in
+    SERVER (sym number) (λ h l. ((c.requires.server, subst (λ us. 0 < times c.args.urb.0 us) (sym (pending_later (machine_of setup) (known_of p) h c.requires.server l (home_of (machine_of setup) c.args.urb.0))) c.requires.pending, marked_later (machine_of setup) (known_of p) h c.requires.server l c.args.urb.0 c.requires.here.own c.requires.marked), few_later (machine_of setup) (known_of p) h c.requires.server l c.args.urb.0 (2 ^ 63) c.requires.few)) refl c.give-code.ensures.stands in
     let made = named q.number new event answer c.give-code.ensures.made in
     (spin (id_of c.args.self.now.turns) setup p q c.enter-stock.result new event answer None c.requires.here e.same e.begins e.own e.stands e.key
     c.leave.new.pass c.give-code.ensures.setup stands (c.leave.ensures.same ∙ ap (left q) made) c.leave.ensures.own).0
@@ -57,7 +56,7 @@ returns-clause-fresh g c =
     let event = Give c.args.urb in
     let answer = Status c.give-code.result in
     let stands = moves (id_of c.args.self.now.turns) setup p q c.enter-stock.result new event answer None c.requires.here e.same e.begins e.own e.stands e.key
-        SERVER (sym number) (λ h l. ((c.requires.server, subst (λ us. 0 < times c.args.urb.0 us) (sym (pending_later (machine_of setup) (known_of p) h c.requires.server l (home_of (machine_of setup) c.args.urb.0))) c.requires.pending, marked_later (machine_of setup) (known_of p) h c.requires.server l c.args.urb.0 c.requires.here.own c.requires.marked), few_later (machine_of setup) (known_of p) h c.requires.server l c.args.urb.0 (2 ^ 63) c.requires.few)) refl c.give-code.ensures.stands in
+    SERVER (sym number) (λ h l. ((c.requires.server, subst (λ us. 0 < times c.args.urb.0 us) (sym (pending_later (machine_of setup) (known_of p) h c.requires.server l (home_of (machine_of setup) c.args.urb.0))) c.requires.pending, marked_later (machine_of setup) (known_of p) h c.requires.server l c.args.urb.0 c.requires.here.own c.requires.marked), few_later (machine_of setup) (known_of p) h c.requires.server l c.args.urb.0 (2 ^ 63) c.requires.few)) refl c.give-code.ensures.stands in
     let made = named q.number new event answer c.give-code.ensures.made in
     (spin (id_of c.args.self.now.turns) setup p q c.enter-stock.result new event answer None c.requires.here e.same e.begins e.own e.stands e.key
     c.leave.new.pass c.give-code.ensures.setup stands (c.leave.ensures.same ∙ ap (left q) made) c.leave.ensures.own).1

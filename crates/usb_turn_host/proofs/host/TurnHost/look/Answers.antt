@@ -1,4 +1,4 @@
-use Rattle.std.proofs.Common.{◌≡◌, sym, ◌∙◌}
+use Rattle.std.proofs.Common.{sym, ◌∙◌}
 use Rattle.usb_machine.specs.History.{state_of}
 use Rattle.usb_turn_host.specs.Setup.{setup_of}
 use Rattle.usb_turn_host.specs.Stock.{machine_of}

@@ -1,4 +1,4 @@
-use Rattle.std.proofs.Common.{◌≡◌, List, [], ◌∷◌, ◌++◌, Option, Some, None, subst, sym, refl, ap, ◌∙◌}
+use Rattle.std.proofs.Common.{◌++◌, None, subst, sym, refl, ap, ◌∙◌}
 use Rattle.usb_turn.specs.Pass.{left}
 use Rattle.usb_turn.specs.Shown.{id_of}
 use Rattle.usb_turn_host.specs.Setup.{setup_of}
@@ -16,7 +16,7 @@ leave-requires-clause-stands g c =
     let event = c.args.event in
     let answer = c.make-answer.result in
     let stands = makes (id_of c.args.self.now.turns) setup c.args.pass.now q c.enter-stock.result new event answer None c.requires.here e.same e.begins e.own e.stands e.key
-        c.number.result c.number.ensures refl c.requires.may c.requires.still c.make-answer.ensures.stands in
+    c.number.result c.number.ensures refl c.requires.may c.requires.still c.make-answer.ensures.stands in
     subst (λ l. IsStock new (q.seen ++ l)) (sym (named q.number new event answer c.make-answer.ensures.made)) stands
 
 pub returns-clause-here : goal.returns-clause-here
@@ -28,7 +28,7 @@ returns-clause-here g c =
     let event = c.args.event in
     let answer = c.make-answer.result in
     let stands = makes (id_of c.args.self.now.turns) setup c.args.pass.now q c.enter-stock.result new event answer None c.requires.here e.same e.begins e.own e.stands e.key
-        c.number.result c.number.ensures refl c.requires.may c.requires.still c.make-answer.ensures.stands in
+    c.number.result c.number.ensures refl c.requires.may c.requires.still c.make-answer.ensures.stands in
     (turn (id_of c.args.self.now.turns) setup c.args.pass.now q c.enter-stock.result new event answer None c.requires.here e.same e.begins e.own e.stands e.key
     c.leave.new.pass c.make-answer.ensures.setup stands
     (c.leave.ensures.same ∙ ap (left q) (named q.number new event answer c.make-answer.ensures.made)) c.leave.ensures.own (c.make-answer.ensures.answer q.seen e.stands)).0
@@ -42,7 +42,7 @@ returns-clause-fresh g c =
     let event = c.args.event in
     let answer = c.make-answer.result in
     let stands = makes (id_of c.args.self.now.turns) setup c.args.pass.now q c.enter-stock.result new event answer None c.requires.here e.same e.begins e.own e.stands e.key
-        c.number.result c.number.ensures refl c.requires.may c.requires.still c.make-answer.ensures.stands in
+    c.number.result c.number.ensures refl c.requires.may c.requires.still c.make-answer.ensures.stands in
     (turn (id_of c.args.self.now.turns) setup c.args.pass.now q c.enter-stock.result new event answer None c.requires.here e.same e.begins e.own e.stands e.key
     c.leave.new.pass c.make-answer.ensures.setup stands
     (c.leave.ensures.same ∙ ap (left q) (named q.number new event answer c.make-answer.ensures.made)) c.leave.ensures.own (c.make-answer.ensures.answer q.seen e.stands)).1
@@ -56,7 +56,7 @@ returns-clause-answered g c =
     let event = c.args.event in
     let answer = c.make-answer.result in
     let stands = makes (id_of c.args.self.now.turns) setup c.args.pass.now q c.enter-stock.result new event answer None c.requires.here e.same e.begins e.own e.stands e.key
-        c.number.result c.number.ensures refl c.requires.may c.requires.still c.make-answer.ensures.stands in
+    c.number.result c.number.ensures refl c.requires.may c.requires.still c.make-answer.ensures.stands in
     (turn (id_of c.args.self.now.turns) setup c.args.pass.now q c.enter-stock.result new event answer None c.requires.here e.same e.begins e.own e.stands e.key
     c.leave.new.pass c.make-answer.ensures.setup stands
     (c.leave.ensures.same ∙ ap (left q) (named q.number new event answer c.make-answer.ensures.made)) c.leave.ensures.own (c.make-answer.ensures.answer q.seen e.stands)).2

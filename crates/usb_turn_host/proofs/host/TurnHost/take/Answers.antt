@@ -1,4 +1,4 @@
-use Rattle.std.proofs.Common.{◌≡◌, List, ap, ◌∙◌, sym, subst}
+use Rattle.std.proofs.Common.{ap, sym, subst}
 use Rattle.usb_turn_host.specs.Setup.{setup_of}
 use Rattle.usb_machine.specs.Fresh.{Known}
 use Rattle.usb_machine.specs.Tokens.{IsWholeServer}
