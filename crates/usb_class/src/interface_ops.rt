@@ -18,7 +18,9 @@ fn role_for(asked: InterfaceOp, driver: Driver) -> Option<Role>
         (Driver::Acm, InterfaceOp::Write) => Some(Role::Write),
         (
             Driver::Acm,
-            InterfaceOp::Coding { .. } | InterfaceOp::Control { .. } | InterfaceOp::SendBreak { .. },
+            InterfaceOp::Coding { .. }
+            | InterfaceOp::Control { .. }
+            | InterfaceOp::SendBreak { .. },
         ) => Some(Role::Ctl),
         (Driver::Printer, InterfaceOp::Print) => Some(Role::Write),
         (Driver::Printer, InterfaceOp::Status | InterfaceOp::SoftReset) => Some(Role::Ctl),

@@ -5,9 +5,9 @@ ghost use Rattle.usb_report.specs.Names.{device_name};
 ghost use Rattle.usb_report.specs.Calls.{target_text, buffer_text, answer_text, call_text, is_told, made_text, made_by, thread_text, threads_text};
 
 use crate::names::{push_device, push_own_urb, push_role};
-use usb_trace::{CallAnswer, CallMade};
 use usb_scene::{Scene, SceneThread, Target};
 use usb_text::push_number;
+use usb_trace::{CallAnswer, CallMade};
 use usb_types::{Buf, Memory};
 
 // The name of a device and the number of its interface, each with the space after it.

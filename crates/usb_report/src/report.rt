@@ -11,9 +11,9 @@ use crate::listing::push_list;
 use crate::names::{push_device, push_urb};
 use crate::telling::push_drivers;
 use usb_bind::Bound;
-use usb_trace::{EndReceived, GivebackRow, RunOutcome, Outcome};
 use usb_scene::Scene;
 use usb_text::{push_hex, push_number, push_pairs};
+use usb_trace::{EndReceived, GivebackRow, Outcome, RunOutcome};
 use usb_types::{Buf, Code, Memory};
 
 // The words of a completion's line up to its length, each with the space after it.

@@ -29,8 +29,7 @@ module _ (g : Machine) (p : SoloPass) (event : Event) (answer : Answer) (carried
   stepped q stock setup diary number =
       let stock' : IsStock q.stock q.diary = subst (IsStock q.stock) (sym diary) stock in
       let machine : machine_of q.stock.setup ≡ g = ap machine_of setup ∙ here.machine in
-      let own : part_of q.diary q.number ≡ q.diary = ap (part_of q.diary) number ∙ (ap (λ h. part_of h p.number) diary ∙ (part_own p.diary x ∙ (ap (λ l. l ++ x ∷ []) here.own ∙ sym diary))) in
-      (
+      let own : part_of q.diary q.number ≡ q.diary = ap (part_of q.diary) number ∙ (ap (λ h. part_of h p.number) diary ∙ (part_own p.diary x ∙ (ap (λ l. l ++ x ∷ []) here.own ∙ sym diary))) in (
         record { stock = stock'; machine = machine; below = subst (λ n. n < g.passes) (sym number) here.below; own = own },
         record {
           grown = record { number = number; begins = record { more = x ∷ []; is = diary }; mine = diary };
@@ -43,8 +42,7 @@ pub glanced : (g : Machine) (p q : SoloPass) → IsSolo g p → IsStock q.stock 
 glanced g p q here stock setup diary number =
     let stock' : IsStock q.stock q.diary = subst (IsStock q.stock) (sym diary) stock in
     let machine : machine_of q.stock.setup ≡ g = ap machine_of setup ∙ here.machine in
-    let own : part_of q.diary q.number ≡ q.diary = ap (part_of q.diary) number ∙ (ap (λ h. part_of h p.number) diary ∙ (here.own ∙ sym diary)) in
-    (
+    let own : part_of q.diary q.number ≡ q.diary = ap (part_of q.diary) number ∙ (ap (λ h. part_of h p.number) diary ∙ (here.own ∙ sym diary)) in (
       record { stock = stock'; machine = machine; below = subst (λ n. n < g.passes) (sym number) here.below; own = own },
       record {
         grown = record { number = number; begins = record { more = []; is = diary ∙ sym (append-nil p.diary) }; mine = diary ∙ sym (append-nil p.diary) };

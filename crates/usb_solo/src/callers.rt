@@ -1,14 +1,15 @@
 //! The calls of any caller.
 ghost use Rattle.std.specs.Prelude.{◌≡◌};
 
-use crate::solo::{SoloHost, SoloPass};
 use crate::hub::SoloHub;
+use crate::solo::{SoloHost, SoloPass};
 use std::sync::Wait;
 use usb_machine::{Answer, Event, Host, Refused, Transfer};
 use usb_types::{Code, Errno, Flag, UrbId, Why};
 
 impl Host for SoloHost {
     type Pass = SoloPass;
+
     type Hub = SoloHub;
 
     ghost use Rattle.std.proofs.Common.{subst};
@@ -33,10 +34,7 @@ impl Host for SoloHost {
         t: Transfer,
     ) -> Result<(), Refused> {
         match self.fault(urb, &t) {
-            Some(errno) => Err(Refused {
-                errno,
-                transfer: t,
-            }),
+            Some(errno) => Err(Refused { errno, transfer: t }),
             None => {
                 self.ask(pass, urb, t)?;
                 self.make(pass, Event::Link { urb });
@@ -45,13 +43,7 @@ impl Host for SoloHost {
         }
     }
 
-    fn unlink<R: Wait>(
-        &self,
-        _rt: &R,
-        pass: &mut SoloPass,
-        urb: UrbId,
-        why: Why,
-    ) -> Errno {
+    fn unlink<R: Wait>(&self, _rt: &R, pass: &mut SoloPass, urb: UrbId, why: Why) -> Errno {
         match self.make(pass, Event::Mark { urb, why }) {
             Answer::Code(Code::Fault(errno)) => errno,
             _ => unreachable!(),

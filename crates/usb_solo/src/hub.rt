@@ -5,7 +5,6 @@ ghost use Rattle.usb_machine.specs.State.{has_flag, with_flag};
 use crate::solo::SoloPass;
 use std::alloc::Global;
 use usb_machine::{Flags, HubToken, Token};
-
 use usb_types::{Flag, UrbId};
 
 /// The hub's token: its pass, and the flags of each URB that it has set.
@@ -89,5 +88,6 @@ impl HubToken for SoloHub {
     }
 
     ghost keeps_flags = { λ t p u. refl };
+
     ghost keeps_room = { λ t p g h. h };
 }

@@ -81,8 +81,12 @@ impl SoloHost {
             Some(t) => Some(t.number),
             None => None,
         };
-        pass.diary
-            .note(pass.number, Event::Claim { urb }, Answer::Number(number), None);
+        pass.diary.note(
+            pass.number,
+            Event::Claim { urb },
+            Answer::Number(number),
+            None,
+        );
         rested
     }
 

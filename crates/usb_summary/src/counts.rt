@@ -5,8 +5,8 @@ ghost use Rattle.usb_generate.specs.Summary.{bytes_in};
 ghost use Rattle.usb_trace.specs.declared.rows.GivebackRow.{GivebackRow};
 ghost use Rattle.usb_summary.specs.Counts.{submit_code, again_code, is_fault, is_some_of, submits_in, counts_of};
 
-use usb_trace::{CallAnswer, CallMade, GivebackRow, RunOutcome, Outcome};
 use usb_scene::Operation;
+use usb_trace::{CallAnswer, CallMade, GivebackRow, Outcome, RunOutcome};
 use usb_types::Code;
 
 /// The numbers of a summary.

@@ -9,10 +9,10 @@ use crate::counts::{Counts, count};
 use std::alloc::Global;
 use usb_generate::generate;
 use usb_line::run_line;
-use usb_trace::RunOutcome;
 use usb_prepare::prepare;
 use usb_scene::Scene;
 use usb_text::push_number;
+use usb_trace::RunOutcome;
 use usb_types::{Buf, Memory};
 
 // The run of a scene in line order.

@@ -11,7 +11,6 @@ use Rattle.usb_solo.specs.declared.solo.SoloPass.{SoloPass}
 use Rattle.usb_solo.specs.Solo.{known_of}
 use Rattle.usb_solo.proofs.Alone.{next, stepped}
 use Rattle.usb_solo.proofs.solo.SoloHost.ask.Goals as goal
-
 use Rattle.usb_solo.proofs.solo.SoloHost.ask.Goals.{in-Ok, in-Err}
 
 pub returns-clause-here : goal.returns-clause-here
