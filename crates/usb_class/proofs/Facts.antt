@@ -1,6 +1,6 @@
 -- What the run of a scene needs to know of drivers: when a transfer goes again, with which window, and which URB has which purpose.
 use Rattle.std.proofs.Common.{ℕ, ◌≡◌, ◌+◌, ◌<◌, ◌≤◌, true≢false, Bool, true, false, cond, eqb, Option, Some, None, List, [], ◌∷◌, length, refl, sym, ap, subst, arith}
-use Rattle.std.specs.Prelude.{◌*◌, ◌||◌, find, option_map, option_and_then}
+use Rattle.std.specs.Prelude.{◌*◌, find, option_map, option_and_then}
 use Rattle.std.specs.Option.{option_map_or}
 use Rattle.std.proofs.lemmas.Nat.{mod_below}
 use Rattle.std.proofs.lemmas.Bool.{eqb-true, eqb-false}

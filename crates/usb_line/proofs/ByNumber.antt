@@ -1,5 +1,5 @@
 -- What a call does is what its number in the table of calls says.
-use Rattle.std.proofs.Common.{ℕ, ◌≡◌, Bool, true, false, cond, eqb, Option, Some, None, refl, sym, ap, ◌∙◌, subst}
+use Rattle.std.proofs.Common.{ℕ, ◌≡◌, cond, Option, Some, None, refl, sym, ap, ◌∙◌}
 use Rattle.std.specs.Prelude.{◌||◌, find, option_map, option_and_then}
 use Rattle.usb_types.specs.declared.urb.UrbId.{UrbId}
 use Rattle.usb_types.specs.declared.urb.Role.{Role}
@@ -18,7 +18,7 @@ use Rattle.usb_scene.specs.declared.operation.Operation.TheVariants as op
 use Rattle.usb_scene.specs.declared.operation.InterfaceOp.{InterfaceOp}
 use Rattle.usb_scene.specs.declared.operation.InterfaceOp.TheVariants as on
 use Rattle.usb_scene.specs.Operation.{operation_of, number_of, interface_number}
-use Rattle.usb_scene.proofs.Operations.{number_kept, IsUnbuilt, Decoded, decoded}
+use Rattle.usb_scene.proofs.Operations.{number_kept, Decoded, decoded}
 use Rattle.usb_prepare.specs.Prepared.{bindings_of}
 use Rattle.usb_prepare.specs.Layout.{role_urb}
 use Rattle.usb_line.specs.declared.made.HostCall.{HostCall}

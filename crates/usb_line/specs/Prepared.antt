@@ -1,6 +1,6 @@
 -- What the run of a scene is made on: the machine of its host with the passes, the script of each endpoint, what its own
 -- URBs submit, and what its calls do.
-use Rattle.std.specs.Prelude.{ℕ, ◌+◌, Bool, false, ◌==◌, if◌then◌else◌, codes, List, [], ◌∷◌, ◌++◌, length, map, count_by, slice_get, slice_index_or, find, replicate, Option, Some, None, option_map, option_and_then}
+use Rattle.std.specs.Prelude.{ℕ, ◌+◌, Bool, false, if◌then◌else◌, codes, List, [], ◌∷◌, ◌++◌, length, map, count_by, slice_get, slice_index_or, find, replicate, Option, Some, None, option_map, option_and_then}
 use Rattle.std.specs.Option.{option_map_or}
 use Rattle.std.specs.Str.{bytes_eq}
 use Rattle.usb_types.specs.declared.errno.Errno.{Errno}

@@ -1,5 +1,5 @@
 -- The operation of a call has its number and its word, and is what its line said.
-use Rattle.std.proofs.Common.{◌≡◌, ◌≢◌, ℕ, ◌+◌, ◌<◌, ◌≤◌, ◌⊎◌, inl, inr, ⊎_elim, Bool, true, false, cond, eqb, List, [], ◌∷◌, Option, Some, None, refl, sym, ap, ◌∙◌, arith}
+use Rattle.std.proofs.Common.{◌≡◌, ◌≢◌, ℕ, ◌≤◌, ◌⊎◌, inl, inr, ⊎_elim, Bool, true, false, cond, eqb, List, [], Option, None, refl, sym, ap, ◌∙◌, arith}
 use Rattle.std.specs.Prelude.{◌%◌, nat_le, option_map, unwrap_or}
 use Rattle.std.specs.List.{Contains}
 use Rattle.std.proofs.Math.Nat.{mod-eq_of_lt}
@@ -25,7 +25,7 @@ use Rattle.usb_scene.specs.declared.operation.InterfaceOp.TheVariants as op
 use Rattle.usb_scene.specs.WellFormed.{IsBuilt}
 use Rattle.usb_scene.specs.Rules.{carries_within}
 use Rattle.usb_scene.specs.Growth.{plain_call, urb_call_code, bare_call_code, interface_call}
-use Rattle.usb_scene.specs.Operation.{byte_in, interface_operation, operation_by, operation_of, interface_number, number_of, interface_text, operation_text, is_built, urb_operation, bare_operation, interface_op}
+use Rattle.usb_scene.specs.Operation.{interface_operation, operation_by, operation_of, interface_number, number_of, interface_text, operation_text, is_built, urb_operation, bare_operation, interface_op}
 use Rattle.usb_scene.proofs.Carried.{data_bits_most}
 
 -- the table of calls has each operation's word at its number

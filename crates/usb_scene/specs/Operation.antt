@@ -1,5 +1,5 @@
 -- What a call asks for. The text of a scene says it by a word, and a call keeps the word's number in the table of calls.
-use Rattle.std.specs.Prelude.{ℕ, ◌%◌, ◌==◌, Bool, true, false, if◌then◌else◌, codes, List, [], ◌∷◌, slice_index, Option, Some, None, unwrap_or}
+use Rattle.std.specs.Prelude.{ℕ, ◌%◌, ◌==◌, Bool, true, false, if◌then◌else◌, codes, List, [], ◌∷◌, slice_index, Option, Some, unwrap_or}
 use Rattle.usb_types.specs.Table.{name_at}
 use Rattle.usb_types.specs.Rows.{call_table}
 use Rattle.usb_statement.specs.declared.keyword.UrbCall.{UrbCall}

@@ -15,4 +15,4 @@ returns-in-Role c s bound =
     let urb : c.bound_urb.result ≡ role_urb s c.in-Role.device c.in-Role.interface c.in-Role.role
     = c.bound_urb.ensures ∙ ap (λ (o : Option Bound). option_map (λ (u : UrbId). u.0) (option_and_then (λ b. urb_of_role b c.in-Role.role) o))
     (c.binding_of.ensures ∙ ap (find (is_binding_of c.in-Role.device c.in-Role.interface)) bound) in
-    c.host_call_to_any.ensures ∙ ((λ i. host_call_on_any (c.operation.ensures i) (urb i)) ∙ ap (host_call_by s asked) (sym c.in-Role.is))
+    c.host_call_to_any.ensures ∙ ((λ i. host_call_on_any (c.operation-operation.ensures i) (urb i)) ∙ ap (host_call_by s asked) (sym c.in-Role.is))
