@@ -1,6 +1,6 @@
 -- Examples that the checker computes: what a serial port's URBs brought back, and the events of it.
-use Rattle.std.proofs.Common.{◌≡◌, ℕ, false, List, [], ◌∷◌, ◌++◌, refl, replicate}
-use Rattle.std.specs.Prelude.{Some, None}
+use Rattle.std.proofs.Common.{◌≡◌, ℕ, false, List, [], ◌∷◌, ◌++◌, length, refl, replicate}
+use Rattle.std.specs.Prelude.{Option, Some, None}
 use Rattle.usb_types.specs.declared.errno.Errno.TheVariants.{ENOENT, EPROTO, EPIPE}
 use Rattle.usb_types.specs.declared.errno.Code.TheVariants.{Zero, Fault}
 use Rattle.usb_types.specs.declared.urb.Role.TheVariants.{Note as NoteRole, Read0, Read1, Write, Ctl}
@@ -9,28 +9,35 @@ use Rattle.usb_machine.specs.declared.transfer.Transfer.{Transfer}
 use Rattle.usb_ctrl.specs.Setup.{bytes_of}
 use Rattle.usb_acm.specs.declared.event.Event.TheVariants.{Rx, State, Note, BadNote, Coding, Tx}
 use Rattle.usb_acm.specs.Notifications.{notes_within, behind_within, notes, unfinished}
-use Rattle.usb_acm.specs.Serial.{Completion, completion, received, lost, stream_of, notes_more, serial_events}
+use Rattle.usb_machine.specs.Completion.{Completion}
+use Rattle.usb_acm.specs.Serial.{received, lost, stream_of, notes_more, serial_events}
 use Rattle.usb_acm.specs.Acm.{action_of}
 use Rattle.usb_acm.specs.Requests.{set_line_coding, set_control_lines, send_break, rate_bytes}
-use Rattle.usb_acm.specs.Told.{note_with}
+
+-- a transfer that moved the whole of its window, which is these bytes
+abbrev whole : Option (List ℕ) → List ℕ → Transfer
+whole setup bytes = record { setup = setup; buf = bytes; from = 0; len = length bytes; short_not_ok = false; actual = length bytes; number = 0 }
+
+abbrev note_with : List ℕ → Completion
+note_with bytes = record { role = NoteRole; status = Zero; transfer = whole None bytes }
 
 abbrev note_killed : Completion
-note_killed = record { role = NoteRole; status = Fault ENOENT; setup = None; moved = [] }
+note_killed = record { role = NoteRole; status = Fault ENOENT; transfer = whole None [] }
 
 abbrev read0 : List ℕ → Completion
-read0 bytes = record { role = Read0; status = Zero; setup = None; moved = bytes }
+read0 bytes = record { role = Read0; status = Zero; transfer = whole None bytes }
 
 abbrev read1 : List ℕ → Completion
-read1 bytes = record { role = Read1; status = Zero; setup = None; moved = bytes }
+read1 bytes = record { role = Read1; status = Zero; transfer = whole None bytes }
 
 abbrev killed0 : List ℕ → Completion
-killed0 bytes = record { role = Read0; status = Fault ENOENT; setup = None; moved = bytes }
+killed0 bytes = record { role = Read0; status = Fault ENOENT; transfer = whole None bytes }
 
 abbrev killed1 : List ℕ → Completion
-killed1 bytes = record { role = Read1; status = Fault ENOENT; setup = None; moved = bytes }
+killed1 bytes = record { role = Read1; status = Fault ENOENT; transfer = whole None bytes }
 
 abbrev asked : List ℕ → List ℕ → Completion
-asked setup bytes = record { role = Ctl; status = Zero; setup = Some setup; moved = bytes }
+asked setup bytes = record { role = Ctl; status = Zero; transfer = whole (Some setup) bytes }
 
 -- the head of a notification, and one of the lines that says 0003
 abbrev head : ℕ → ℕ → ℕ → List ℕ
@@ -92,7 +99,7 @@ what_tells_nothing : serial_events (asked (0x21 ∷ 0x22 ∷ 3 ∷ 0 ∷ 0 ∷ 0
 unfolding serial_events stream_of notes_more notes notes_within
 what_tells_nothing = refl
 
-a_write_tells_its_length : serial_events (record { role = Write; status = Fault EPIPE; setup = None; moved = 1 ∷ 2 ∷ [] } ∷ []) ≡ Tx 2 (Fault EPIPE) ∷ []
+a_write_tells_its_length : serial_events (record { role = Write; status = Fault EPIPE; transfer = whole None (1 ∷ 2 ∷ []) } ∷ []) ≡ Tx 2 (Fault EPIPE) ∷ []
 unfolding serial_events stream_of notes_more notes notes_within
 a_write_tells_its_length = refl
 
@@ -100,7 +107,8 @@ a_write_tells_its_length = refl
 abbrev moved_two : Transfer
 moved_two = record { setup = None; buf = 9 ∷ 8 ∷ 7 ∷ 6 ∷ 5 ∷ []; from = 1; len = 4; short_not_ok = false; actual = 2; number = 0 }
 
-the_window_is_read : completion Read0 Zero moved_two ≡ read0 (8 ∷ 7 ∷ [])
+the_window_is_read : serial_events (record { role = Read0; status = Zero; transfer = moved_two } ∷ []) ≡ Rx (8 ∷ 7 ∷ []) ∷ []
+unfolding serial_events stream_of notes_more notes notes_within
 the_window_is_read = refl
 
 what_becomes_of_a_transfer : (action_of NoteRole Zero moved_two ≡ Again 0 5) × (action_of Read1 (Fault EPROTO) moved_two ≡ Again 0 5) × (action_of Read0 (Fault ENOENT) moved_two ≡ Rest) × (action_of Write Zero moved_two ≡ Rest) × (action_of Ctl Zero moved_two ≡ Rest)

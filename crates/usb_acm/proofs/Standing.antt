@@ -11,13 +11,14 @@ use Rattle.usb_types.specs.declared.urb.Role.{Role}
 use Rattle.usb_types.specs.declared.urb.Role.TheVariants.{In, Note as NoteRole, Read0, Read1, Write, Ctl}
 use Rattle.usb_acm.specs.declared.event.Event.{Event}
 use Rattle.usb_acm.specs.Notifications.{notes, unfinished, behind_within}
-use Rattle.usb_acm.specs.Serial.{Completion, is_data, succeeded, bytes_where, lost, capped, joined, stream_behind, stream_of, events_with, events_of, events_behind, serial_events}
+use Rattle.usb_machine.specs.Completion.{Completion, moved_bytes}
+use Rattle.usb_acm.specs.Serial.{is_data, succeeded, bytes_where, lost, capped, joined, stream_behind, stream_of, events_with, events_of, events_behind, serial_events}
 use Rattle.usb_acm.specs.Acm.{AcmState, part_with, dropped_with, Notes, IsAfter}
 use Rattle.usb_acm.proofs.Streams.{unfinished-append, notes_more-part}
 
 pub stream_behind-append : (stream : List ℕ) (done after : List Completion) → stream_behind stream (done ++ after) ≡ stream_behind (stream_behind stream done) after
 stream_behind-append stream [] after = refl
-stream_behind-append stream (c ∷ done) after = stream_behind-append (joined stream c.role c.status c.moved) done after
+stream_behind-append stream (c ∷ done) after = stream_behind-append (joined stream c.role c.status (moved_bytes c.transfer)) done after
 
 pub stream_of-append : (done after : List Completion) → stream_of (done ++ after) ≡ stream_behind (stream_of done) after
 unfolding stream_of
@@ -25,9 +26,9 @@ stream_of-append done after = stream_behind-append [] done after
 
 pub bytes_where-append : (p : Completion → Bool) (done after : List Completion) → bytes_where p (done ++ after) ≡ bytes_where p done ++ bytes_where p after
 bytes_where-append p done after =
-    ap (λ (cs : List Completion). concat (map (λ (c : Completion). c.moved) cs)) (filter-append p done after)
-    ∙ ap concat (map-append (λ (c : Completion). c.moved) (filter p done) (filter p after))
-    ∙ concat-append (map (λ (c : Completion). c.moved) (filter p done)) (map (λ (c : Completion). c.moved) (filter p after))
+    ap (λ (cs : List Completion). concat (map (λ (c : Completion). moved_bytes c.transfer) cs)) (filter-append p done after)
+    ∙ ap concat (map-append (λ (c : Completion). moved_bytes c.transfer) (filter p done) (filter p after))
+    ∙ concat-append (map (λ (c : Completion). moved_bytes c.transfer) (filter p done)) (map (λ (c : Completion). moved_bytes c.transfer) (filter p after))
 
 pub lost-append : (done after : List Completion) → lost (done ++ after) ≡ lost done + lost after
 lost-append done after =
@@ -76,36 +77,36 @@ part_goes_on stream Ctl status moved = refl
 capped_twice : (a n : ℕ) → capped (capped a + n) ≡ capped (a + n)
 capped_twice a n = omega arith
 
-dropped_goes_on : (before : List Completion) (c : Completion) → dropped_with (capped (lost before)) c.role c.status c.moved ≡ capped (lost (before ++ c ∷ []))
+dropped_goes_on : (before : List Completion) (c : Completion) → dropped_with (capped (lost before)) c.role c.status (moved_bytes c.transfer) ≡ capped (lost (before ++ c ∷ []))
 dropped_goes_on before c =
     go (is_data c.role && not (succeeded c.status)) refl
     ∙ ap capped (sym (lost-append before (c ∷ [])))
   where
     go : (b : Bool) → (is_data c.role && not (succeeded c.status)) ≡ b
-        → cond (is_data c.role && not (succeeded c.status)) (capped (capped (lost before) + length c.moved)) (capped (lost before))
-        ≡ capped (lost before + length (concat (map (λ (d : Completion). d.moved) (cond (is_data c.role && not (succeeded c.status)) (c ∷ []) []))))
+        → cond (is_data c.role && not (succeeded c.status)) (capped (capped (lost before) + length (moved_bytes c.transfer))) (capped (lost before))
+        ≡ capped (lost before + length (concat (map (λ (d : Completion). moved_bytes d.transfer) (cond (is_data c.role && not (succeeded c.status)) (c ∷ []) []))))
     go true e =
-        ap (λ (b : Bool). cond b (capped (capped (lost before) + length c.moved)) (capped (lost before))) e
-        ∙ capped_twice (lost before) (length c.moved)
-        ∙ ap (λ (xs : List ℕ). capped (lost before + length xs)) (sym (append-nil c.moved))
-        ∙ sym (ap (λ (b : Bool). capped (lost before + length (concat (map (λ (d : Completion). d.moved) (cond b (c ∷ []) []))))) e)
+        ap (λ (b : Bool). cond b (capped (capped (lost before) + length (moved_bytes c.transfer))) (capped (lost before))) e
+        ∙ capped_twice (lost before) (length (moved_bytes c.transfer))
+        ∙ ap (λ (xs : List ℕ). capped (lost before + length xs)) (sym (append-nil (moved_bytes c.transfer)))
+        ∙ sym (ap (λ (b : Bool). capped (lost before + length (concat (map (λ (d : Completion). moved_bytes d.transfer) (cond b (c ∷ []) []))))) e)
     go false e =
-        ap (λ (b : Bool). cond b (capped (capped (lost before) + length c.moved)) (capped (lost before))) e
+        ap (λ (b : Bool). cond b (capped (capped (lost before) + length (moved_bytes c.transfer))) (capped (lost before))) e
         ∙ ap capped (sym (add-zero (lost before)))
-        ∙ sym (ap (λ (b : Bool). capped (lost before + length (concat (map (λ (d : Completion). d.moved) (cond b (c ∷ []) []))))) e)
+        ∙ sym (ap (λ (b : Bool). capped (lost before + length (concat (map (λ (d : Completion). moved_bytes d.transfer) (cond b (c ∷ []) []))))) e)
 
 pub after_more : (old new : AcmState) (done : List Completion) (c : Completion) → IsAfter old done → Notes old new c → IsAfter new (done ++ c ∷ [])
 after_more old new done c s n = record {
   part = n.part
-      ∙ ap (λ (p : List ℕ). part_with p c.role c.status c.moved) s.part
-      ∙ part_goes_on (stream_of done) c.role c.status c.moved
+      ∙ ap (λ (p : List ℕ). part_with p c.role c.status (moved_bytes c.transfer)) s.part
+      ∙ part_goes_on (stream_of done) c.role c.status (moved_bytes c.transfer)
       ∙ ap unfinished (sym (stream_of-append done (c ∷ [])));
   events = n.events
-      ∙ ap (λ (es : List Event). es ++ events_with (notes (old.part ++ c.moved)) c.role c.status c.setup c.moved) s.events
-      ∙ ap (λ (p : List ℕ). serial_events done ++ events_with (notes (p ++ c.moved)) c.role c.status c.setup c.moved) s.part
-      ∙ ap (λ (es : List Event). serial_events done ++ events_with es c.role c.status c.setup c.moved) (sym (notes_more-part (stream_of done) c.moved))
+      ∙ ap (λ (es : List Event). es ++ events_with (notes (old.part ++ moved_bytes c.transfer)) c.role c.status c.transfer.setup (moved_bytes c.transfer)) s.events
+      ∙ ap (λ (p : List ℕ). serial_events done ++ events_with (notes (p ++ moved_bytes c.transfer)) c.role c.status c.transfer.setup (moved_bytes c.transfer)) s.part
+      ∙ ap (λ (es : List Event). serial_events done ++ events_with es c.role c.status c.transfer.setup (moved_bytes c.transfer)) (sym (notes_more-part (stream_of done) (moved_bytes c.transfer)))
       ∙ sym (serial_events-snoc done c);
   dropped = n.dropped
-      ∙ ap (λ (d : ℕ). dropped_with d c.role c.status c.moved) s.dropped
+      ∙ ap (λ (d : ℕ). dropped_with d c.role c.status (moved_bytes c.transfer)) s.dropped
       ∙ dropped_goes_on done c;
 }

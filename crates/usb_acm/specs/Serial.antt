@@ -1,26 +1,15 @@
 -- The events of a serial port, of all that its URBs brought back.
-use Rattle.std.specs.Prelude.{ℕ, ◌-◌, ◌^◌, Bool, true, false, not, ◌==◌, ◌&&◌, if◌then◌else◌, List, [], ◌∷◌, ◌++◌, map, filter, length, take, drop, min, Option, Some, None}
+use Rattle.std.specs.Prelude.{ℕ, ◌-◌, ◌^◌, Bool, true, false, not, ◌==◌, ◌&&◌, if◌then◌else◌, List, [], ◌∷◌, ◌++◌, map, filter, length, drop, min, Option, Some, None}
 use Rattle.std.specs.List.{concat}
 use Rattle.usb_types.specs.declared.errno.Code.{Code}
 use Rattle.usb_types.specs.declared.errno.Code.TheVariants.{Zero, Fault}
 use Rattle.usb_types.specs.declared.urb.Role.{Role}
 use Rattle.usb_types.specs.declared.urb.Role.TheVariants.{Note as NoteRole, Read0, Read1, Write, Ctl}
 use Rattle.usb_ctrl.specs.Setup.{setup_of}
-use Rattle.usb_machine.specs.declared.transfer.Transfer.{Transfer}
+use Rattle.usb_machine.specs.Completion.{Completion, moved_bytes}
 use Rattle.usb_acm.specs.declared.event.Event.{Event}
 use Rattle.usb_acm.specs.declared.event.Event.TheVariants.{Rx, Coding, Tx}
 use Rattle.usb_acm.specs.Notifications.{notes}
-
--- an URB of the port came back: what it is for, its status, its setup packet, and the bytes that were moved
-pub record Completion : Type 0 where
-  pub role : Role
-  pub status : Code
-  pub setup : Option (List ℕ)
-  pub moved : List ℕ
-
--- the moved bytes are the first ones of the window
-abbrev pub completion : Role → Code → Transfer → Completion
-completion role status t = record { role = role; status = status; setup = t.setup; moved = take t.actual (drop t.from t.buf) }
 
 abbrev pub is_data : Role → Bool
 is_data Read0 = true
@@ -31,9 +20,13 @@ abbrev pub succeeded : Code → Bool
 succeeded Zero = true
 succeeded (Fault errno) = false
 
+-- the bytes that completions moved, one after the other
+abbrev pub bytes_moved : List Completion → List ℕ
+bytes_moved done = concat (map (λ (c : Completion). moved_bytes c.transfer) done)
+
 -- the bytes that some of the reads moved
 abbrev pub bytes_where : (Completion → Bool) → List Completion → List ℕ
-bytes_where p done = concat (map (λ (c : Completion). c.moved) (filter p done))
+bytes_where p done = bytes_moved (filter p done)
 
 -- the bytes that the port received: those of the reads that succeeded, in order
 abbrev pub received : List Completion → List ℕ
@@ -55,7 +48,7 @@ joined stream role status moved = stream
 
 abbrev pub stream_behind : List ℕ → List Completion → List ℕ
 stream_behind stream [] = stream
-stream_behind stream (c ∷ done) = stream_behind (joined stream c.role c.status c.moved) done
+stream_behind stream (c ∷ done) = stream_behind (joined stream c.role c.status (moved_bytes c.transfer)) done
 
 -- the stream of notes that stands: all their bytes since the last one that failed
 unfoldable pub stream_of : List Completion → List ℕ
@@ -89,7 +82,7 @@ events_with ended role status setup moved = []
 
 -- the events of one completion, which came after all these
 abbrev pub events_of : List Completion → Completion → List Event
-events_of before c = events_with (notes_more (stream_of before) c.moved) c.role c.status c.setup c.moved
+events_of before c = events_with (notes_more (stream_of before) (moved_bytes c.transfer)) c.role c.status c.transfer.setup (moved_bytes c.transfer)
 
 abbrev pub events_behind : List Completion → List Completion → List Event
 events_behind before [] = []

@@ -1,7 +1,7 @@
 //! The core of a serial port's driver: what its completions mean, and what its transfers do next.
 ghost use Rattle.std.specs.Prelude.{◌≡◌, ◌++◌, ◌∷◌, [], ◌+◌, ◌<◌, ◌^◌, List, length, OnOk, OnErr, IfOk};
 ghost use Rattle.usb_acm.specs.Serial.{sets_coding as sets_coding_of};
-ghost use Rattle.usb_acm.specs.Acm.{again_of, action_of};
+ghost use Rattle.usb_acm.specs.Acm.{action_of};
 
 use crate::event::Event;
 use crate::notifications::push_notes;
@@ -9,7 +9,7 @@ use std::alloc::{AllocError, Global};
 use std::marker::Model;
 use usb_ctrl::Setup;
 use usb_machine::Transfer;
-use usb_types::{Action, Buf, Code, Errno, List, Memory, Role};
+use usb_types::{Action, Buf, Code, List, Memory, Role};
 
 /// The core of a serial port's driver. It keeps the notification that is not whole yet, of fewer than 72 bytes, and all
 /// events so far.
@@ -32,7 +32,8 @@ impl Model for Acm {
 impl Acm {
     ghost use Rattle.usb_machine.specs.Shapes.{HasWindow};
     ghost use Rattle.usb_acm.specs.Notifications.{notes, unfinished, Grown};
-    ghost use Rattle.usb_acm.specs.Serial.{Completion, completion, capped, data_events, coding_events};
+    ghost use Rattle.usb_machine.specs.Completion.{Completion};
+    ghost use Rattle.usb_acm.specs.Serial.{capped, data_events, coding_events};
     ghost use Rattle.usb_acm.specs.Acm.{Notes, IsAfter, IsOfAcm};
 
     /// The core of a port that has said nothing. It takes no memory.
@@ -73,27 +74,20 @@ impl Acm {
         requires role { IsOfAcm role }
         requires window { HasWindow t.now }
         ensures action { IfOk result (λ action. action ≡ action_of role code t.now) }
-        ensures stands { (done : List Completion) → IsAfter self.old done → OnOk result (IsAfter self.new (done ++ completion role code t.now ∷ [])) }
+        ensures stands { (done : List Completion) → IsAfter self.old done → OnOk result (IsAfter self.new (done ++ record { role = role; status = code; transfer = t.now } ∷ [])) }
         ensures memory { OnErr result (self.new ≡ self.old) }
     {
-        let from = t.from as usize;
-        let moved = &t.buf.bytes()[from..from + t.actual as usize];
-        self.take_note(role, code, t.setup, moved)?;
+        self.take_note(role, code, t)?;
         Ok(action(role, code, t))
     }
 
-    /// Takes note of an URB that came back, by the bytes that were moved. An `Err` changes nothing.
-    fn take_note(
-        &mut self,
-        role: Role,
-        code: Code,
-        setup: Option<[u8; 8]>,
-        moved: &[u8],
-    ) -> Result<(), Memory>
-        requires { length moved.now < 2 ^ 32 }
-        ensures ok { OnOk result (Notes self.old self.new record { role = role; status = code; setup = setup; moved = moved.now }) }
+    /// Takes note of an URB that came back. An `Err` changes nothing.
+    fn take_note(&mut self, role: Role, code: Code, t: &Transfer) -> Result<(), Memory>
+        requires { HasWindow t.now }
+        ensures ok { OnOk result (Notes self.old self.new record { role = role; status = code; transfer = t.now }) }
         ensures err { OnErr result (self.new ≡ self.old) }
     {
+        let moved = t.moved();
         match (role, code) {
             (Role::Note, Code::Zero) => self.note(moved),
             (Role::Note, Code::Fault(_)) => {
@@ -109,7 +103,7 @@ impl Acm {
                 let actual = moved.len() as u32;
                 self.tell(Event::Tx { actual, code })
             }
-            (Role::Ctl, Code::Zero) => self.control(setup, moved),
+            (Role::Ctl, Code::Zero) => self.control(t.setup, moved),
             _ => Ok(()),
         }
     }
@@ -151,7 +145,7 @@ impl Acm {
         if moved.is_empty() {
             return Ok(());
         }
-        let bytes = copied(self.alloc, moved)?;
+        let bytes = Buf::copy(self.alloc, moved)?;
         self.tell(Event::Rx { bytes })
     }
 
@@ -173,7 +167,7 @@ impl Acm {
         if !sets_coding(packet) {
             return Ok(());
         }
-        let bytes = copied(self.alloc, moved)?;
+        let bytes = Buf::copy(self.alloc, moved)?;
         self.tell(Event::Coding { bytes })
     }
 
@@ -186,15 +180,6 @@ impl Acm {
             Ok(()) => Ok(()),
             Err(_) => Err(Memory),
         }
-    }
-}
-
-fn copied(alloc: Global, bytes: &[u8]) -> Result<Buf, Memory>
-    ensures { IfOk result (λ buf. buf ≡ bytes.now) }
-{
-    match bytes.to_vec(alloc) {
-        Ok(copy) => Ok(Buf::of(copy)),
-        Err(_) => Err(Memory),
     }
 }
 
@@ -211,20 +196,7 @@ fn action(role: Role, code: Code, t: &Transfer) -> Action
     ensures { result ≡ action_of role code t.now }
 {
     match role {
-        Role::Note | Role::Read0 | Role::Read1 => again(code, t),
-        _ => Action::Rest,
-    }
-}
-
-fn again(code: Code, t: &Transfer) -> Action
-    requires { length t.now.buf < 2 ^ 32 }
-    ensures { result ≡ again_of code t.now }
-{
-    match code {
-        Code::Zero | Code::Fault(Errno::EPROTO | Errno::EOVERFLOW) => Action::Again {
-            from: 0,
-            len: t.buf.bytes().len() as u32,
-        },
+        Role::Note | Role::Read0 | Role::Read1 => t.read_again(code),
         _ => Action::Rest,
     }
 }

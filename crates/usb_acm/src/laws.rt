@@ -1,19 +1,21 @@
 //! What the events of a serial port mean.
-ghost use Rattle.std.specs.Prelude.{◌≡◌, ◌++◌, ◌∷◌, [], ◌+◌, ◌<◌, ℕ, List, map, length, drop, true, false};
-ghost use Rattle.std.specs.List.{concat};
+ghost use Rattle.std.specs.Prelude.{◌≡◌, ◌++◌, ◌∷◌, [], ◌+◌, ◌<◌, ℕ, List, All, length, drop, true, false};
+ghost use Rattle.usb_machine.specs.Completion.{Completion};
 ghost use Rattle.usb_acm.specs.Notifications.{note_length, is_whole, event_of, notes, unfinished};
-ghost use Rattle.usb_acm.specs.Serial.{Completion, received, lost, serial_events, events_behind};
-ghost use Rattle.usb_acm.specs.Told.{bytes_told, read_bytes, note_with};
+ghost use Rattle.usb_acm.specs.Serial.{bytes_moved, received, lost, serial_events, events_behind};
+ghost use Rattle.usb_acm.specs.Told.{bytes_told, read_bytes, IsNote};
 
 /// What was reported stays reported: completions that follow add events after those so far.
 pub fn events_only_grow()
     ensures { (before after : List Completion) → serial_events (before ++ after) ≡ serial_events before ++ events_behind before after }
 {}
 
-/// However a stream of notes is cut into completions, the events are the same, and so are those that follow.
+/// However a stream of notes is cut into completions, the events are the same, and so are those that follow. Any bytes are
+/// those of a note.
 pub fn notes_may_be_cut_anywhere()
-    ensures { (before after : List Completion) (cuts others : List (List ℕ)) → concat cuts ≡ concat others
-        → serial_events (before ++ map note_with cuts ++ after) ≡ serial_events (before ++ map note_with others ++ after) }
+    ensures any { (bytes : List ℕ) → (note : Completion) × IsNote note × (bytes_moved (note ∷ []) ≡ bytes) }
+    ensures same { (before after cuts others : List Completion) → All IsNote cuts → All IsNote others → bytes_moved cuts ≡ bytes_moved others
+        → serial_events (before ++ cuts ++ after) ≡ serial_events (before ++ others ++ after) }
 {}
 
 /// A stream is one notification after another, and an unfinished one of fewer than 72 bytes.

@@ -120,12 +120,6 @@ urb_of_role b role = urb_by b.driver b role
 abbrev pub is_binding_of : ℕ → ℕ → Bound → Bool
 is_binding_of device interface b = b.device == device && b.interface == interface
 
-abbrev pub binding_of : BoardValue → ℕ → ℕ → Option Bound
-binding_of board device interface = find (is_binding_of device interface) board.bindings
-
-abbrev pub urb_named : BoardValue → ℕ → ℕ → Role → Option UrbId
-urb_named board device interface role = option_and_then (λ b. urb_of_role b role) (binding_of board device interface)
-
 -- a binding is undone: its interfaces are free, and its URBs are released
 abbrev pub without : BoardValue → Bound → BoardValue
 without board b = record board { bindings = filter (λ other. not (is_binding_of b.device b.interface other)) board.bindings }

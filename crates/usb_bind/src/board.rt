@@ -1,7 +1,7 @@
 //! Which driver has which interface.
 ghost use Rattle.std.specs.Prelude.{◌≡◌, ◌<◌, ◌^◌, length, All, AllPairs, [], IfOk, OnOk, OnErr, option_copied};
 ghost use Rattle.std.specs.Result.{result_err};
-ghost use Rattle.usb_bind.specs.Board.{attached_at, alt_at, holder_of, with_binding, claim_of, claim_fault, without, released_one, released_all, MayJoin, IsApart, AreThere, binding_of, urb_named};
+ghost use Rattle.usb_bind.specs.Board.{attached_at, alt_at, holder_of, with_binding, claim_of, claim_fault, without, released_one, released_all, MayJoin, IsApart, AreThere};
 ghost use Rattle.usb_bind.specs.Probe.{other_holder, planned, plan_for, probed, board_after, pool_after, slot_urb, slot_taken, all_next, all_taken};
 
 use crate::bound::Bound;
@@ -16,7 +16,7 @@ use std::alloc::Global;
 use std::marker::Model;
 use usb_ctrl::Attached;
 use usb_desc::Alt;
-use usb_types::{List, Memory, Role, UrbId};
+use usb_types::{List, Memory, UrbId};
 
 /// How many interfaces a device has at most: their numbers are bytes.
 const NUMBERS: usize = 256;
@@ -78,22 +78,6 @@ impl Board {
         ensures there { All (AreThere self.now) result.now }
     {
         &self.bindings
-    }
-
-    /// The binding whose own interface this is. A data interface has none.
-    pub fn binding(&self, device: u32, interface: u8) -> Option<&Bound>
-        ensures { option_copied result ≡ binding_of self.now device interface }
-    {
-        self.bindings
-            .iter()
-            .find(|bound| bound.is_of(device, interface))
-    }
-
-    /// The URB of a binding, named by the device, the binding's own interface and what it is for.
-    pub fn urb(&self, device: u32, interface: u8, role: Role) -> Option<UrbId>
-        ensures { result ≡ urb_named self.now device interface role }
-    {
-        self.binding(device, interface)?.urb(role)
     }
 
     /// The driver that has an interface.

@@ -6,6 +6,7 @@ use Rattle.usb_types.specs.declared.errno.Code.TheVariants.{Zero, Fault}
 use Rattle.usb_types.specs.declared.urb.Role.TheVariants.{In, Note, Read0, Read1, Write, Ctl}
 use Rattle.usb_types.specs.declared.urb.Action.TheVariants.{Rest}
 use Rattle.usb_machine.specs.declared.transfer.Transfer.{Transfer}
+use Rattle.usb_machine.specs.Completion.{Completion}
 use Rattle.usb_bind.specs.declared.row.Driver.TheVariants.{Keyboard, Acm, Printer}
 use Rattle.usb_bind.specs.declared.bound.Bound.{Bound}
 use Rattle.usb_hid.specs.Keys.{modifiers_after, codes_after, key_events}
@@ -14,7 +15,6 @@ use Rattle.usb_class.specs.declared.class_core.Told.TheVariants.{Keys, Serial, J
 use Rattle.usb_acm.specs.Serial.{serial_events}
 use Rattle.usb_acm.specs.declared.event.Event.TheVariants.{Rx}
 use Rattle.usb_printer.specs.declared.event.Event.TheVariants.{Id, Job}
-use Rattle.usb_class.specs.Done.{Done}
 use Rattle.usb_class.specs.Origin.{Origin}
 use Rattle.usb_class.specs.Roles.{role_in, has_number}
 use Rattle.usb_scene.specs.declared.operation.InterfaceOp.TheVariants as op
@@ -35,7 +35,7 @@ lights on = record { setup = None; buf = on ∷ []; from = 0; len = 1; short_not
 abbrev a : List ℕ
 a = 0 ∷ 0 ∷ 0x04 ∷ 0 ∷ 0 ∷ 0 ∷ 0 ∷ 0 ∷ []
 
-abbrev back : List Done
+abbrev back : List Completion
 back = record { role = In; status = Zero; transfer = read a } ∷ record { role = Ctl; status = Zero; transfer = lights 2 } ∷ []
 
 a_keyboard_tells_keys_and_lights : told_of Keyboard no_origin back ≡ Keys (Down 0x04 ∷ Led 2 ∷ [])
@@ -43,7 +43,7 @@ unfolding key_events modifiers_after codes_after
 a_keyboard_tells_keys_and_lights = refl
 
 -- three bytes that came, two that came with a fault, and the line coding that was set
-abbrev came : List Done
+abbrev came : List Completion
 came =
     record { role = Read0; status = Zero; transfer = record (read (0x41 ∷ 0x42 ∷ 0x43 ∷ [])) { actual = 3 } }
     ∷ record { role = Read1; status = Fault ENOENT; transfer = record (read (0x44 ∷ 0x45 ∷ [])) { actual = 2 } }
@@ -54,7 +54,7 @@ unfolding serial_events
 a_port_tells_what_came = refl
 
 -- a job of one byte that was printed, after an id of eight bytes that says MFG:A;
-abbrev printed : List Done
+abbrev printed : List Completion
 printed = record { role = Write; status = Zero; transfer = record { setup = None; buf = 0x41 ∷ []; from = 0; len = 1; short_not_ok = false; actual = 1; number = 6 } } ∷ []
 
 a_printer_tells_its_id_and_jobs : told_of Printer (record { number = 2000000; interface = 0; id = 0 ∷ 8 ∷ 0x4D ∷ 0x46 ∷ 0x47 ∷ 0x3A ∷ 0x41 ∷ 0x3B ∷ [] }) printed

@@ -17,6 +17,7 @@ use Rattle.usb_types.specs.declared.urb.Action.TheVariants.{Rest, Again, Ask}
 use Rattle.usb_types.specs.Codes.{errno_of}
 use Rattle.usb_machine.specs.declared.transfer.Transfer.{Transfer}
 use Rattle.usb_machine.specs.Shapes.{HasWindow}
+use Rattle.usb_machine.specs.Completion.{Completion, after_window, read_again}
 use Rattle.usb_desc.specs.declared.tree.ConfigTree.{ConfigTree}
 use Rattle.usb_desc.specs.declared.tree.Alt.{Alt}
 use Rattle.usb_desc.specs.declared.tree.End.{End}
@@ -27,11 +28,9 @@ use Rattle.usb_bind.specs.declared.bound.Bound.{Bound}
 use Rattle.usb_bind.specs.Board.{BoardValue, attached_at, urb_by, urb_of_role}
 use Rattle.usb_bind.specs.Interfaces.{interface_at, packet_size}
 use Rattle.usb_bind.specs.Needs.{end_for, read_size}
-use Rattle.usb_acm.specs.Acm.{again_of}
 use Rattle.usb_class.specs.declared.class_core.Core.{Core}
 use Rattle.usb_class.specs.declared.class_core.Core.TheVariants.{Keyboard as KeyboardCore, Acm as AcmCore, Printer as PrinterCore}
-use Rattle.usb_printer.specs.Jobs.{rest_of, first_window, is_unlink}
-use Rattle.usb_class.specs.Done.{Done}
+use Rattle.usb_printer.specs.Jobs.{first_window, is_unlink}
 use Rattle.usb_printer.specs.Requests.{question_of}
 use Rattle.usb_class.specs.Origin.{Origin}
 use Rattle.usb_class.specs.Questions.{question_by}
@@ -50,40 +49,38 @@ parts : (t : Transfer) (from len : ℕ) → Again 0 (length t.buf) ≡ Again fro
 parts t from len is = (cc, cc)
 
 -- a read goes again from the start of its buffer, with all of it
-port_again : (status : Code) (t : Transfer) (from len : ℕ) → again_of status t ≡ Again from len → (from ≡ 0) × (len ≡ length t.buf) × (goes_on status ≡ true)
-port_again Zero t from len is = let p = parts t from len is in (p.0, p.1, refl)
-port_again (Fault EPROTO) t from len is = let p = parts t from len is in (p.0, p.1, refl)
-port_again (Fault EOVERFLOW) t from len is = let p = parts t from len is in (p.0, p.1, refl)
-port_again status t from len is = absurd cc
+goes_again_whole : (status : Code) (t : Transfer) (from len : ℕ) → read_again status t ≡ Again from len → (from ≡ 0) × (len ≡ length t.buf) × (goes_on status ≡ true)
+goes_again_whole Zero t from len is = let p = parts t from len is in (p.0, p.1, refl)
+goes_again_whole (Fault EPROTO) t from len is = let p = parts t from len is in (p.0, p.1, refl)
+goes_again_whole (Fault EOVERFLOW) t from len is = let p = parts t from len is in (p.0, p.1, refl)
+goes_again_whole status t from len is = absurd cc
 
 pub again_reads : (driver : Driver) (role : Role) (status : Code) (t : Transfer) (from len : ℕ) → action_of driver role status t ≡ Again from len → is_write role ≡ false
     → (from ≡ 0) × (len ≡ length t.buf) × (goes_on status ≡ true)
 again_reads driver Write status t from len is off = absurd (true≢false off)
-again_reads Keyboard In Zero t from len is off = let p = parts t from len is in (p.0, p.1, refl)
-again_reads Keyboard In (Fault EPROTO) t from len is off = let p = parts t from len is in (p.0, p.1, refl)
-again_reads Keyboard In (Fault EOVERFLOW) t from len is off = let p = parts t from len is in (p.0, p.1, refl)
-again_reads Acm Note status t from len is off = port_again status t from len is
-again_reads Acm Read0 status t from len is off = port_again status t from len is
-again_reads Acm Read1 status t from len is off = port_again status t from len is
+again_reads Keyboard In status t from len is off = goes_again_whole status t from len is
+again_reads Acm Note status t from len is off = goes_again_whole status t from len is
+again_reads Acm Read0 status t from len is off = goes_again_whole status t from len is
+again_reads Acm Read1 status t from len is off = goes_again_whole status t from len is
 again_reads Keyboard Ctl status t from len is off = absurd cc
 again_reads Acm Ctl status t from len is off = absurd cc
 again_reads Printer Ctl status t from len is off = absurd cc
 again_reads driver role status t from len is off = absurd cc
 
 -- a job goes on after its window, with some of what is left
-job_again : (t : Transfer) (from len : ℕ) (b : Bool) → eqb (rest_of t) 0 ≡ b → cond b Rest (Again (t.from + t.len) (first_window (rest_of t))) ≡ Again from len
+job_again : (t : Transfer) (from len : ℕ) (b : Bool) → eqb (after_window t) 0 ≡ b → cond b Rest (Again (t.from + t.len) (first_window (after_window t))) ≡ Again from len
     → (from ≡ t.from + t.len) × (from + len ≤ length t.buf) × (0 < len)
 job_again t from len true e is = absurd cc
 job_again t from len false e is =
     let start : t.from + t.len ≡ from = cc in
-    let size : first_window (rest_of t) ≡ len = cc in
-    let some = eqb-false (rest_of t) 0 e in
-    let more : 0 < rest_of t = grind arith in
+    let size : first_window (after_window t) ≡ len = cc in
+    let some = eqb-false (after_window t) 0 e in
+    let more : 0 < after_window t = grind arith in
     (sym start, omega arith, omega arith)
 
 pub again_writes : (driver : Driver) (status : Code) (t : Transfer) (from len : ℕ) → action_of driver Write status t ≡ Again from len
     → (from ≡ t.from + t.len) × (from + len ≤ length t.buf) × (0 < len)
-again_writes Printer Zero t from len is = job_again t from len (eqb (rest_of t) 0) refl is
+again_writes Printer Zero t from len is = job_again t from len (eqb (after_window t) 0) refl is
 again_writes Printer (Fault c) t from len is = go (is_unlink c) is
   where
     go : (b : Bool) → cond b Rest Ask ≡ Again from len → (from ≡ t.from + t.len) × (from + len ≤ length t.buf) × (0 < len)
@@ -117,11 +114,11 @@ window_kept driver role status t has = go (action_of driver role status t) refl
     go Ask e = record { window = has.window; buffer = has.buffer; within = grind arith }
     go (Again from len) e = record { window = again_within driver role status t from len e (is_write role) refl; buffer = has.buffer; within = grind arith }
 
-port_asks : {X : Type 0} (status : Code) (t : Transfer) → again_of status t ≡ Ask → X
-port_asks Zero t is = absurd cc
-port_asks (Fault EPROTO) t is = absurd cc
-port_asks (Fault EOVERFLOW) t is = absurd cc
-port_asks status t is = absurd cc
+read_asks : {X : Type 0} (status : Code) (t : Transfer) → read_again status t ≡ Ask → X
+read_asks Zero t is = absurd cc
+read_asks (Fault EPROTO) t is = absurd cc
+read_asks (Fault EOVERFLOW) t is = absurd cc
+read_asks status t is = absurd cc
 
 -- only a printer's driver asks, after a job
 pub asks_by : (driver : Driver) (role : Role) (status : Code) (t : Transfer) → action_of driver role status t ≡ Ask → (driver ≡ Printer) × (role ≡ Write)
@@ -131,12 +128,10 @@ asks_by Printer Note status t is = absurd cc
 asks_by Printer Read0 status t is = absurd cc
 asks_by Printer Read1 status t is = absurd cc
 asks_by Printer Ctl status t is = absurd cc
-asks_by Keyboard In Zero t is = absurd cc
-asks_by Keyboard In (Fault EPROTO) t is = absurd cc
-asks_by Keyboard In (Fault EOVERFLOW) t is = absurd cc
-asks_by Acm Note status t is = port_asks status t is
-asks_by Acm Read0 status t is = port_asks status t is
-asks_by Acm Read1 status t is = port_asks status t is
+asks_by Keyboard In status t is = read_asks status t is
+asks_by Acm Note status t is = read_asks status t is
+asks_by Acm Read0 status t is = read_asks status t is
+asks_by Acm Read1 status t is = read_asks status t is
 asks_by driver role status t is = absurd cc
 
 -- what was unlinked rests
@@ -234,7 +229,7 @@ pub role_is_of_driver : (u : ℕ) (b : Bound) (role : Role) → role_in u b ≡ 
 role_is_of_driver u b role is = urb_of_driver b.driver b role (record { 0 = u }) (role_has u b role is)
 
 -- an URB of the driver may come back to the driver's core
-pub can_complete : (driver : Driver) (o : Origin) (done : List Done) (core : Core) (role : Role) → IsCore driver o done core → IsOfDriver driver role → CanComplete core role
+pub can_complete : (driver : Driver) (o : Origin) (done : List Completion) (core : Core) (role : Role) → IsCore driver o done core → IsOfDriver driver role → CanComplete core role
 can_complete Keyboard o done (KeyboardCore kept) role is of = of
 can_complete Acm o done (AcmCore kept) role is of = of
 can_complete Printer o done (PrinterCore kept) role is of = of

@@ -1,5 +1,5 @@
 -- What the core of a driver has seen, and what may come to it.
-use Rattle.std.specs.Prelude.{◌≡◌, Bool, true, false, List, map}
+use Rattle.std.specs.Prelude.{◌≡◌, Bool, true, false, List}
 use Rattle.usb_types.specs.declared.urb.Role.{Role}
 use Rattle.usb_bind.specs.declared.row.Driver.{Driver}
 use Rattle.usb_bind.specs.declared.row.Driver.TheVariants.{Keyboard, Acm, Printer}
@@ -8,22 +8,21 @@ use Rattle.usb_acm.specs.Acm.{IsAfter as IsAcmAfter, IsOfAcm}
 use Rattle.usb_printer.specs.Printer.{PrinterState, IsAfter as IsPrinterAfter, IsOfPrinter}
 use Rattle.usb_printer.specs.Requests.{question_of}
 use Rattle.usb_machine.specs.declared.transfer.Transfer.{Transfer}
+use Rattle.usb_machine.specs.Completion.{Completion}
 use Rattle.usb_class.specs.declared.class_core.Core.{Core}
 use Rattle.usb_class.specs.declared.class_core.Core.TheVariants.{Keyboard as KeyboardCore, Acm as AcmCore, Printer as PrinterCore}
-use Rattle.usb_class.specs.Done.{Done}
 use Rattle.usb_class.specs.Origin.{Origin}
-use Rattle.usb_class.specs.Told.{heard, port_heard, printer_heard}
 
 -- a printer's core began so, and has seen these completions and no other
-pub record IsPrinter (o : Origin) (done : List Done) (kept : PrinterState) : Type 0 where
+pub record IsPrinter (o : Origin) (done : List Completion) (kept : PrinterState) : Type 0 where
   pub number : kept.number ≡ o.number
   pub interface : kept.interface ≡ o.interface
-  pub stands : IsPrinterAfter kept o.id (map printer_heard done)
+  pub stands : IsPrinterAfter kept o.id done
 
 -- the core is this driver's, began so, and has seen these completions and no other
-abbrev pub IsCore : Driver → Origin → List Done → Core → Type 0
-IsCore Keyboard o done (KeyboardCore kept) = IsKeyboardAfter kept (map heard done)
-IsCore Acm o done (AcmCore kept) = IsAcmAfter kept (map port_heard done)
+abbrev pub IsCore : Driver → Origin → List Completion → Core → Type 0
+IsCore Keyboard o done (KeyboardCore kept) = IsKeyboardAfter kept done
+IsCore Acm o done (AcmCore kept) = IsAcmAfter kept done
 IsCore Printer o done (PrinterCore kept) = IsPrinter o done kept
 IsCore driver o done core = ⊥
 

@@ -1,4 +1,3 @@
-pub mod Done
 pub mod Origin
 pub mod Questions
 pub mod Roles

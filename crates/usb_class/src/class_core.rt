@@ -1,7 +1,7 @@
 //! The core of any class driver, and what it reports.
 ghost use Rattle.std.specs.Prelude.{◌≡◌, ◌++◌, ◌∷◌, [], true, false, if◌then◌else◌, List, None, IfSome, OnSome, IfNone, IfOk, OnOk, OnErr};
 ghost use Rattle.usb_machine.specs.Shapes.{HasWindow};
-ghost use Rattle.usb_class.specs.Done.{Done};
+ghost use Rattle.usb_machine.specs.Completion.{Completion};
 ghost use Rattle.usb_class.specs.Origin.{Origin};
 ghost use Rattle.usb_class.specs.Questions.{question_by, still_out};
 ghost use Rattle.usb_class.specs.Handler.{action_of};
@@ -61,10 +61,10 @@ impl Core {
     pub fn complete(&mut self, role: Role, code: Code, t: &Transfer) -> Result<Action, Memory>
         requires role { CanComplete self.old role }
         requires window { HasWindow t.now }
-        ensures action { (driver : Driver) (o : Origin) (done : List Done) → IsCore driver o done self.old → IfOk result (λ action. action ≡ action_of driver role code t.now) }
-        ensures stands { (driver : Driver) (o : Origin) (done : List Done) → IsCore driver o done self.old
+        ensures action { (driver : Driver) (o : Origin) (done : List Completion) → IsCore driver o done self.old → IfOk result (λ action. action ≡ action_of driver role code t.now) }
+        ensures stands { (driver : Driver) (o : Origin) (done : List Completion) → IsCore driver o done self.old
             → OnOk result (IsCore driver o (done ++ record { role = role; status = code; transfer = t.now } ∷ []) self.new) }
-        ensures asking { (driver : Driver) (o : Origin) (done : List Done) → IsCore driver o done self.old
+        ensures asking { (driver : Driver) (o : Origin) (done : List Completion) → IsCore driver o done self.old
             → OnOk result (is_asking self.new ≡ still_out driver o role t.now (is_asking self.old)) }
         ensures memory { OnErr result (self.new ≡ self.old) }
     {
@@ -77,9 +77,9 @@ impl Core {
 
     /// Gives the question that the driver asks by itself, where it has one that is not out.
     pub fn ask(&mut self) -> Option<Transfer>
-        ensures question { (driver : Driver) (o : Origin) (done : List Done) → IsCore driver o done self.old
+        ensures question { (driver : Driver) (o : Origin) (done : List Completion) → IsCore driver o done self.old
             → result ≡ (if is_asking self.old then None else question_by driver o) }
-        ensures same { (driver : Driver) (o : Origin) (done : List Done) → IsCore driver o done self.old → IsCore driver o done self.new }
+        ensures same { (driver : Driver) (o : Origin) (done : List Completion) → IsCore driver o done self.old → IsCore driver o done self.new }
         ensures out { OnSome result (is_asking self.new ≡ true) }
         ensures kept { IfNone result (self.new ≡ self.old) }
         ensures back { IfSome result (CanUnask self.new) }
@@ -93,7 +93,7 @@ impl Core {
     /// Takes the question back, as `ask` gave it.
     pub fn unask(&mut self, t: Transfer)
         requires { CanUnask self.old t }
-        ensures same { (driver : Driver) (o : Origin) (done : List Done) → IsCore driver o done self.old → IsCore driver o done self.new }
+        ensures same { (driver : Driver) (o : Origin) (done : List Completion) → IsCore driver o done self.old → IsCore driver o done self.new }
         ensures quiet { is_asking self.new ≡ false }
     {
         if let Core::Printer(printer) = self {
@@ -103,7 +103,7 @@ impl Core {
 
     /// What the driver reports of all that came back, with its memory.
     pub fn into_told(self) -> Told
-        ensures { (driver : Driver) (o : Origin) (done : List Done) → IsCore driver o done self → result ≡ told_of driver o done }
+        ensures { (driver : Driver) (o : Origin) (done : List Completion) → IsCore driver o done self → result ≡ told_of driver o done }
     {
         match self {
             Core::Keyboard(keyboard) => Told::Keys(keyboard.into_events()),

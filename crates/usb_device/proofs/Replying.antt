@@ -1,5 +1,5 @@
 -- A call, from what the script replied to the reply that was due.
-use Rattle.std.proofs.Common.{ℕ, ◌≡◌, ◌≢◌, Bool, true, false, eqb, Some, List, [], ◌∷◌, ◌++◌, refl, sym, ap, ◌∙◌, subst, arith, append-nil}
+use Rattle.std.proofs.Common.{ℕ, ◌≡◌, ◌≢◌, inl, inr, ⊎_elim, Bool, true, false, eqb, Some, List, [], ◌∷◌, ◌++◌, refl, sym, ap, ◌∙◌, subst, arith, append-nil}
 use Rattle.std.specs.Prelude.{slice_get, slice_set}
 use Rattle.std.proofs.lemmas.Bool.{eqb-true}
 use Rattle.usb_ctrl.specs.declared.setup.Setup.{Setup}
@@ -69,6 +69,9 @@ fetched old new a said asks spends = record {
       stands_now new new script calls (call_of a Fetch) said asked refl refl refl (asked.state ∙ ap (λ (r : Ruled). r.state) (sym (fetch_word said script (state_after script calls)))) refl;
   left = spends.left;
   spent = spends.spent;
+  rises = spends.rises;
+  count = spends.count;
+  counted = spends.counted;
 }
 
 send_due : (old mid : Scripted) (a : ℕ) (said : Said) (packet : List ℕ) → Asks old mid a (Send packet) said → (script : DeviceScript) (calls : List Call) → Stands old script calls → packet_word said ≡ reply_to script calls (call_of a (Send packet))
@@ -105,17 +108,23 @@ not_taken old new a packet said asks spends off = record {
       (no_ack packet (reply_to script calls (call_of a (Send packet))) (λ e. off (send_due old new a said packet asks script calls stands ∙ e)));
   left = spends.left;
   spent = spends.spent;
+  rises = spends.rises;
+  count = spends.count;
+  counted = spends.counted;
 }
 
 -- an Ack acknowledges the packet
 pub sent : (old mid new : Scripted) (a : ℕ) (packet : List ℕ) (said : Said) (end : ScriptedEnd) (acked : Acked) → Asks old mid a (Send packet) said → Spends old mid a (packet_word said) → packet_word said ≡ Ack
-    → new.script.now ≡ mid.script.now → new.free ≡ mid.free → new.state ≡ mid.state → slice_get mid.ends.items a ≡ Some end → new.ends.items ≡ slice_set mid.ends.items a (record end { acked = acked })
+    → new.script.now ≡ mid.script.now → new.free ≡ mid.free → new.state ≡ mid.state → new.used ≡ mid.used → slice_get mid.ends.items a ≡ Some end → new.ends.items ≡ slice_set mid.ends.items a (record end { acked = acked })
     → ((before : List ℕ) → IsAcked end.acked before → IsAcked acked (before ++ packet)) → Replied old a (Send packet) (packet_word said) new
-sent old mid new a packet said end acked asks spends ack of free state there ends adds = record {
+sent old mid new a packet said end acked asks spends ack of free state used there ends adds = record {
   due = send_due old mid a said packet asks;
   heard = λ script calls stands. go script calls stands (asks script calls stands);
   left = omega (arith, same_left, spends.left);
   spent = λ off is. omega (arith, same_left, spends.spent off is);
+  rises = omega (arith, used, spends.rises);
+  count = ⊎_elim (λ q. inl (used ∙ q)) (λ q. inr (used ∙ q)) spends.count;
+  counted = λ off is. used ∙ spends.counted off is;
 }
   where
     same_left : items_left new ≡ items_left mid
@@ -139,13 +148,16 @@ sent old mid new a packet said end acked asks spends ack of free state there end
         }
 
 -- a control transfer acknowledges no packet
-pub answered : (old mid new : Scripted) (setup : Setup) (out : List ℕ) (said : Said) → Asks old mid 0 (Ask setup out) said → Spends old mid 0 (packet_word said) → new.script.now ≡ mid.script.now → new.free ≡ mid.free → new.ends.items ≡ mid.ends.items
+pub answered : (old mid new : Scripted) (setup : Setup) (out : List ℕ) (said : Said) → Asks old mid 0 (Ask setup out) said → Spends old mid 0 (packet_word said) → new.script.now ≡ mid.script.now → new.free ≡ mid.free → new.ends.items ≡ mid.ends.items → new.used ≡ mid.used
     → new.state ≡ (word_of said mid.script.now mid.state (Ask setup out)).state → Replied old 0 (Ask setup out) (word_of said mid.script.now mid.state (Ask setup out)).reply new
-answered old mid new setup out said asks spends of free ends state = record {
+answered old mid new setup out said asks spends of free ends used state = record {
   due = λ script calls stands. let asked = asks script calls stands in ap (λ (r : Ruled). r.reply) (same script calls asked) ∙ asked.reply;
   heard = λ script calls stands. let asked = asks script calls stands in stands_now mid new script calls (call_of 0 (Ask setup out)) said asked of free ends (state ∙ ap (λ (r : Ruled). r.state) (same script calls asked)) refl;
   left = omega (arith, left_same mid new ends, spends.left);
   spent = λ off. absurd (off refl);
+  rises = omega (arith, used, spends.rises);
+  count = ⊎_elim (λ q. inl (used ∙ q)) (λ q. inr (used ∙ q)) spends.count;
+  counted = λ off. absurd (off refl);
 }
   where
     same : (script : DeviceScript) (calls : List Call) → IsAsked mid script calls (call_of 0 (Ask setup out)) said → word_of said mid.script.now mid.state (Ask setup out) ≡ word_of said script (state_after script calls) (Ask setup out)

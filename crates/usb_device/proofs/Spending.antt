@@ -1,5 +1,5 @@
 -- How the items left of a device change with one of its ends.
-use Rattle.std.proofs.Common.{ℕ, zero, suc, ◌≡◌, ◌≢◌, ◌+◌, ◌<◌, ◌≤◌, Bool, true, false, cond, eqb, Option, Some, None, List, [], ◌∷◌, refl, sym, ap, ◌∙◌, arith, true≢false, sum_by}
+use Rattle.std.proofs.Common.{ℕ, zero, suc, ◌≡◌, ◌≢◌, inl, inr, ◌+◌, ◌<◌, ◌≤◌, Bool, true, false, cond, eqb, Option, Some, None, List, [], ◌∷◌, refl, sym, ap, ◌∙◌, arith, true≢false, sum_by}
 use Rattle.std.specs.Prelude.{slice_get, slice_set, MatchOption}
 use Rattle.std.specs.Borrow.{Bor}
 use Rattle.std.proofs.lemmas.List.Sums.{sum_by-cons}
@@ -60,9 +60,9 @@ last_unspent a = go (eqb a 0) (goes_in a) refl
 
 -- a use at an address, and its reply
 pub spends_next : (old new : Scripted) (a : ℕ) (next : Option (Bor What)) (r : Reply) → Uses old new a next → r ≡ next_or (last_at a) next → Spends old new a r
-spends_next old new a (Some what) r uses word = record { left = uses_left old new a (Some what) uses; spent = λ off is. uses.left }
-spends_next old new a None r uses word = record { left = uses.left; spent = λ off is. absurd (last_unspent a (ap (is_spent a) (sym word) ∙ is)) }
+spends_next old new a (Some what) r uses word = record { left = uses_left old new a (Some what) uses; spent = λ off is. uses.left; rises = uses.rises; count = inr uses.count; counted = λ off is. uses.count }
+spends_next old new a None r uses word = record { left = uses.left; spent = λ off is. absurd (last_unspent a (ap (is_spent a) (sym word) ∙ is)); rises = uses.rises; count = inl uses.count; counted = λ off is. absurd (last_unspent a (ap (is_spent a) (sym word) ∙ is)) }
 
 -- where no item was used, and none was needed
-pub spends_none : (old new : Scripted) (a : ℕ) (r : Reply) → new.ends.items ≡ old.ends.items → (a ≢ 0 → is_spent a r ≢ true) → Spends old new a r
-spends_none old new a r ends none = record { left = omega (arith, left_same old new ends); spent = λ off is. absurd (none off is) }
+pub spends_none : (old new : Scripted) (a : ℕ) (r : Reply) → new.ends.items ≡ old.ends.items → new.used ≡ old.used → (a ≢ 0 → is_spent a r ≢ true) → Spends old new a r
+spends_none old new a r ends used none = record { left = omega (arith, left_same old new ends); spent = λ off is. absurd (none off is); rises = omega arith; count = inl used; counted = λ off is. absurd (none off is) }

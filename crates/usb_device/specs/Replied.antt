@@ -1,9 +1,10 @@
 -- What a scripted device does with a call.
-use Rattle.std.specs.Prelude.{ℕ, ◌≡◌, ◌≢◌, ◌<◌, ◌≤◌, true, List, [], ◌∷◌, ◌++◌}
+use Rattle.std.specs.Prelude.{ℕ, ◌≡◌, ◌≢◌, ◌<◌, ◌≤◌, ◌⊎◌, true, List, [], ◌∷◌, ◌++◌}
 use Rattle.usb_xfer.specs.Replies.{Reply, Question}
 use Rattle.usb_xfer.specs.declared.script.DeviceScript.{DeviceScript}
 use Rattle.usb_device.specs.declared.scripted.Scripted.{Scripted}
 use Rattle.usb_device.specs.Left.{items_left, is_spent}
+use Rattle.usb_device.specs.Counts.{one_more}
 use Rattle.usb_device.specs.Device.{Call, reply_to, Stands}
 
 abbrev pub call_of : ℕ → Question → Call
@@ -16,3 +17,6 @@ pub record Replied (old : Scripted) (address : ℕ) (question : Question) (r : R
   pub heard : (script : DeviceScript) (calls : List Call) → Stands old script calls → Stands new script (calls ++ call_of address question ∷ [])
   pub left : items_left new ≤ items_left old
   pub spent : address ≢ 0 → is_spent address r ≡ true → items_left new < items_left old
+  pub rises : old.used ≤ new.used
+  pub count : (new.used ≡ old.used) ⊎ (new.used ≡ one_more old.used)
+  pub counted : address ≢ 0 → is_spent address r ≡ true → new.used ≡ one_more old.used

@@ -1,6 +1,7 @@
 -- What the script replies to a question, before the rules reply where it is left to them.
-use Rattle.std.specs.Prelude.{ℕ, ◌≡◌, ◌+◌, ◌≢◌, ◌<◌, ◌≤◌, true, List, [], ◌∷◌, ◌++◌, Option, Some, slice_get, slice_set, MatchOption}
+use Rattle.std.specs.Prelude.{ℕ, ◌≡◌, ◌+◌, ◌-◌, ◌^◌, min, ◌⊎◌, ◌≢◌, ◌<◌, ◌≤◌, true, List, [], ◌∷◌, ◌++◌, Option, Some, slice_get, slice_set, MatchOption}
 use Rattle.std.specs.Borrow.{Bor}
+use Rattle.usb_device.specs.Counts.{one_more}
 use Rattle.usb_xfer.specs.Replies.{Reply, Question}
 use Rattle.usb_xfer.specs.declared.script.What.{What}
 use Rattle.usb_xfer.specs.declared.script.What.TheVariants.{Stall}
@@ -49,8 +50,14 @@ pub record Uses (old new : Scripted) (address : ℕ) (next : Option (Bor What)) 
   pub item : (last : Reply) → next_or last next ≡ coming last end.place address 0
   pub on : (last : Reply) (k : ℕ) → coming last place address k ≡ coming last end.place address (k + 1)
   pub left : MatchOption next (items_left new ≤ items_left old) (λ what. items_left new < items_left old)
+  pub count : MatchOption next (new.used ≡ old.used) (λ what. new.used ≡ one_more old.used)
+  pub rises : old.used ≤ new.used
 
--- the items left never rise, and fall where an address other than 00 gives a reply that only an item gives
+-- the items left never rise, and fall where an address other than 00 gives a reply that only an item gives; the count of the
+-- used ones stays or goes up by one, and goes up there
 pub record Spends (old new : Scripted) (address : ℕ) (r : Reply) : Type 0 where
   pub left : items_left new ≤ items_left old
   pub spent : address ≢ 0 → is_spent address r ≡ true → items_left new < items_left old
+  pub rises : old.used ≤ new.used
+  pub count : (new.used ≡ old.used) ⊎ (new.used ≡ one_more old.used)
+  pub counted : address ≢ 0 → is_spent address r ≡ true → new.used ≡ one_more old.used

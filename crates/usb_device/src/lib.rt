@@ -2,6 +2,7 @@
 #![tactic(auto)]
 
 mod acked;
+mod counted;
 mod heard;
 mod kind;
 mod laws;

@@ -2,6 +2,7 @@
 ghost use Rattle.std.specs.Prelude.{◌≡◌, vec_len};
 
 use crate::acked::Acked;
+use crate::counted::counted;
 use crate::heard::{heard_control, is_taken};
 use crate::kind::{free, is_raw};
 use crate::place::Place;
@@ -45,6 +46,8 @@ pub struct Scripted<'a> {
     /// How many more control transfers use no item.
     free: u8,
     state: DeviceState,
+    /// How many items were used, at most `u64::MAX`.
+    used: u64,
     /// A place and a count for each address, by its byte.
     ends: Vec<ScriptedEnd<'a>>,
     ghost all_ends: { vec_len ends ≡ 256 },
@@ -77,6 +80,7 @@ impl<'a> Scripted<'a> {
             script,
             free: free(script.kind),
             state: DeviceState::new(),
+            used: 0,
             ends,
         })
     }
@@ -95,7 +99,9 @@ impl<'a> Scripted<'a> {
         ensures used { Uses self.old self.new address result }
         ensures short { is_short (next_or Nak result) ≡ true }
     {
-        self.ends[address as usize].place.next(address)
+        let next = self.ends[address as usize].place.next(address);
+        self.used = counted(self.used, &next);
+        next
     }
 
     // What the script replies at 00.
@@ -148,6 +154,14 @@ impl Device for Scripted<'_> {
     ghost use Rattle.usb_device.specs.Replied.{Replied};
 
     ghost replies = { λ old address question r new. Replied old address question r new };
+
+    ghost items_used = { λ d. d.used };
+
+    ghost never_falls = { λ old address question r new is. is.rises };
+
+    fn used(&self) -> u64 {
+        self.used
+    }
 
     fn input(&mut self, address: u8, room: &mut [u8]) -> InReply {
         self.said(address).heard_in(room)

@@ -1,5 +1,5 @@
 -- Examples that the checker computes: what keyboards said, and the events of it.
-use Rattle.std.proofs.Common.{◌≡◌, ℕ, true, false, List, [], ◌∷◌, ◌++◌, refl}
+use Rattle.std.proofs.Common.{◌≡◌, ℕ, true, false, List, [], ◌∷◌, ◌++◌, length, refl}
 use Rattle.usb_types.specs.declared.errno.Errno.TheVariants.{ENOENT, EPROTO}
 use Rattle.usb_types.specs.declared.errno.Code.TheVariants.{Zero, Fault}
 use Rattle.usb_types.specs.declared.urb.Role.TheVariants.{In, Ctl}
@@ -7,21 +7,26 @@ use Rattle.usb_types.specs.declared.urb.Action.TheVariants.{Rest, Again}
 use Rattle.usb_machine.specs.declared.transfer.Transfer.{Transfer}
 use Rattle.usb_ctrl.specs.Setup.{bytes_of}
 use Rattle.usb_hid.specs.declared.event.Event.TheVariants.{Down, Up, Led}
-use Rattle.usb_hid.specs.Keys.{Completion, completion, modifiers_after, codes_after, key_events}
+use Rattle.usb_machine.specs.Completion.{Completion}
+use Rattle.usb_hid.specs.Keys.{modifiers_after, codes_after, key_events}
 use Rattle.usb_hid.specs.Keyboard.{action_of}
 use Rattle.usb_hid.specs.Down.{is_down, keys_after}
 use Rattle.usb_hid.specs.Requests.{set_report}
 use Rattle.std.specs.Prelude.{None}
 
+-- a transfer that moved the whole of its window, which is these bytes
+abbrev whole : List ℕ → Transfer
+whole bytes = record { setup = None; buf = bytes; from = 0; len = length bytes; short_not_ok = false; actual = length bytes; number = 0 }
+
 -- a read that succeeded, one that failed, and lights that were sent
 abbrev read : List ℕ → Completion
-read bytes = record { role = In; status = Zero; moved = bytes }
+read bytes = record { role = In; status = Zero; transfer = whole bytes }
 
 abbrev killed : List ℕ → Completion
-killed bytes = record { role = In; status = Fault ENOENT; moved = bytes }
+killed bytes = record { role = In; status = Fault ENOENT; transfer = whole bytes }
 
 abbrev lit : List ℕ → Completion
-lit bytes = record { role = Ctl; status = Zero; moved = bytes }
+lit bytes = record { role = Ctl; status = Zero; transfer = whole bytes }
 
 abbrev nothing : List ℕ
 nothing = 0 ∷ 0 ∷ 0 ∷ 0 ∷ 0 ∷ 0 ∷ 0 ∷ 0 ∷ []
@@ -103,7 +108,8 @@ a_key_is_down_until_it_is_up = (refl, refl, refl)
 abbrev moved_two : Transfer
 moved_two = record { setup = None; buf = 9 ∷ 8 ∷ 7 ∷ 6 ∷ 5 ∷ []; from = 1; len = 4; short_not_ok = false; actual = 2; number = 0 }
 
-the_window_is_read : completion In Zero moved_two ≡ read (8 ∷ 7 ∷ [])
+the_window_is_read : key_events (record { role = Ctl; status = Zero; transfer = moved_two } ∷ []) ≡ Led 8 ∷ []
+unfolding key_events modifiers_after codes_after
 the_window_is_read = refl
 
 what_becomes_of_a_transfer : (action_of In Zero moved_two ≡ Again 0 5) × (action_of In (Fault EPROTO) moved_two ≡ Again 0 5) × (action_of In (Fault ENOENT) moved_two ≡ Rest) × (action_of Ctl Zero moved_two ≡ Rest)

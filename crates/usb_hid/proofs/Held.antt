@@ -8,7 +8,8 @@ use Rattle.std.proofs.lemmas.List.Elements.{filter_map-append}
 use Rattle.usb_hid.specs.declared.event.Event.{Event}
 use Rattle.usb_hid.specs.declared.event.Event.TheVariants.{Down, Up}
 use Rattle.usb_hid.specs.Reports.{has, modifiers_of, codes_of, is_roll_over, modifier_bits, modifier_key}
-use Rattle.usb_hid.specs.Keys.{Completion, report_in, reports, last_of, modifiers_after, codes_after, report_events, light_events, events_of, events_behind, key_events}
+use Rattle.usb_machine.specs.Completion.{Completion, moved_bytes}
+use Rattle.usb_hid.specs.Keys.{report_in, reports, last_of, modifiers_after, codes_after, report_events, light_events, events_of, events_behind, key_events}
 use Rattle.usb_hid.specs.Down.{said_of, is_down, keys_after, has_modifier_code}
 use Rattle.usb_hid.proofs.Standing.{modifiers_after-append, codes_after-append}
 use Rattle.usb_hid.proofs.Traces.{trace, toggle}
@@ -19,7 +20,7 @@ abbrev stands : ℕ → List Completion → Bool
 stands key done = held key (modifiers_after done) (codes_after done)
 
 abbrev report_with : Completion → Option (List ℕ)
-report_with c = report_in c.role c.status c.moved
+report_with c = report_in c.role c.status (moved_bytes c.transfer)
 
 modifiers_after-snoc : (done : List Completion) (c : Completion) → modifiers_after (done ++ c ∷ []) ≡ next_modifiers (modifiers_after done) (report_with c)
 modifiers_after-snoc done c = modifiers_after-append done (c ∷ []) ∙ go (modifiers_after done) (report_with c)
@@ -42,8 +43,8 @@ codes_after-snoc done c = codes_after-append done (c ∷ []) ∙ go (codes_after
 completion_toggles : (key : ℕ) (done : List Completion) (c : Completion) → IsAlone key (codes_after done) → ReportIsAlone key (report_with c)
     → trace key (events_of done c) ≡ toggle (stands key done) (stands key (done ++ c ∷ []))
 completion_toggles key done c o w =
-    filter_map-append (said_of key) (report_events (modifiers_after done) (codes_after done) (report_with c)) (light_events c.role c.status c.moved)
-    ∙ ap (λ (xs : List Bool). trace key (report_events (modifiers_after done) (codes_after done) (report_with c)) ++ xs) (lights_say_nothing key c.role c.status c.moved)
+    filter_map-append (said_of key) (report_events (modifiers_after done) (codes_after done) (report_with c)) (light_events c.role c.status (moved_bytes c.transfer))
+    ∙ ap (λ (xs : List Bool). trace key (report_events (modifiers_after done) (codes_after done) (report_with c)) ++ xs) (lights_say_nothing key c.role c.status (moved_bytes c.transfer))
     ∙ append-nil (trace key (report_events (modifiers_after done) (codes_after done) (report_with c)))
     ∙ report_toggles key (modifiers_after done) (codes_after done) (report_with c) o w
     ∙ ap (λ (m : ℕ). toggle (stands key done) (held key m (next_codes (codes_after done) (report_with c)))) (sym (modifiers_after-snoc done c))

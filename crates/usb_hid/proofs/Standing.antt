@@ -6,7 +6,8 @@ use Rattle.std.proofs.lemmas.List.Elements.{filter-append, filter_map-append}
 use Rattle.usb_hid.specs.declared.event.Event.{Event}
 use Rattle.usb_hid.specs.Reports.{modifiers_of, codes_of, is_roll_over}
 use Rattle.usb_hid.specs.Changes.{Grown}
-use Rattle.usb_hid.specs.Keys.{Completion, report_in, reports, last_of, modifiers_after, codes_after, report_events, light_events, events_of, events_behind, key_events}
+use Rattle.usb_machine.specs.Completion.{Completion, moved_bytes}
+use Rattle.usb_hid.specs.Keys.{report_in, reports, last_of, modifiers_after, codes_after, report_events, light_events, events_of, events_behind, key_events}
 use Rattle.usb_hid.specs.Keyboard.{KeyboardState, Notes, IsAfter}
 
 pub last_of-append : {X : Type 0} (x : X) (xs ys : List X) → last_of x (xs ++ ys) ≡ last_of (last_of x xs) ys
@@ -14,7 +15,7 @@ last_of-append x [] ys = refl
 last_of-append x (y ∷ xs) ys = last_of-append y xs ys
 
 pub reports-append : (before after : List Completion) → reports (before ++ after) ≡ reports before ++ reports after
-reports-append before after = filter_map-append (λ (c : Completion). report_in c.role c.status c.moved) before after
+reports-append before after = filter_map-append (λ (c : Completion). report_in c.role c.status (moved_bytes c.transfer)) before after
 
 pub modifiers_after-append : (before after : List Completion) → modifiers_after (before ++ after) ≡ last_of (modifiers_after before) (map modifiers_of (reports after))
 unfolding modifiers_after
@@ -67,10 +68,10 @@ after_more old new done c s n = record {
   modifiers = n.modifiers ∙ ap (λ (m : ℕ). last_of m (map modifiers_of (reports (c ∷ [])))) s.modifiers ∙ sym (modifiers_after-append done (c ∷ []));
   codes = n.codes ∙ ap (λ (cs : List ℕ). last_of cs (filter (λ codes. not (is_roll_over codes)) (map codes_of (reports (c ∷ []))))) s.codes ∙ sym (codes_after-append done (c ∷ []));
   events = n.events
-      ∙ append_assoc old.events (report_events old.modifiers old.codes (report_in c.role c.status c.moved)) (light_events c.role c.status c.moved)
-      ∙ ap (λ (es : List Event). es ++ (report_events old.modifiers old.codes (report_in c.role c.status c.moved) ++ light_events c.role c.status c.moved)) s.events
-      ∙ ap (λ (m : ℕ). key_events done ++ (report_events m old.codes (report_in c.role c.status c.moved) ++ light_events c.role c.status c.moved)) s.modifiers
-      ∙ ap (λ (cs : List ℕ). key_events done ++ (report_events (modifiers_after done) cs (report_in c.role c.status c.moved) ++ light_events c.role c.status c.moved)) s.codes
+      ∙ append_assoc old.events (report_events old.modifiers old.codes (report_in c.role c.status (moved_bytes c.transfer))) (light_events c.role c.status (moved_bytes c.transfer))
+      ∙ ap (λ (es : List Event). es ++ (report_events old.modifiers old.codes (report_in c.role c.status (moved_bytes c.transfer)) ++ light_events c.role c.status (moved_bytes c.transfer))) s.events
+      ∙ ap (λ (m : ℕ). key_events done ++ (report_events m old.codes (report_in c.role c.status (moved_bytes c.transfer)) ++ light_events c.role c.status (moved_bytes c.transfer))) s.modifiers
+      ∙ ap (λ (cs : List ℕ). key_events done ++ (report_events (modifiers_after done) cs (report_in c.role c.status (moved_bytes c.transfer)) ++ light_events c.role c.status (moved_bytes c.transfer))) s.codes
       ∙ sym (key_events-snoc done c);
 }
 

@@ -4,7 +4,8 @@ use Rattle.std.specs.List.{list_any}
 use Rattle.usb_hid.specs.declared.event.Event.{Event}
 use Rattle.usb_hid.specs.declared.event.Event.TheVariants.{Down, Up, Led}
 use Rattle.usb_hid.specs.Reports.{is_key, has, codes_of, modifier_bits, modifier_key, is_set}
-use Rattle.usb_hid.specs.Keys.{Completion, reports, modifiers_after, codes_after, last_of}
+use Rattle.usb_machine.specs.Completion.{Completion}
+use Rattle.usb_hid.specs.Keys.{reports, modifiers_after, codes_after, last_of}
 
 -- what an event says of a key: that it went down, or up, or nothing
 abbrev pub said_of : ℕ → Event → Option Bool

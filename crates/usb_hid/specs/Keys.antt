@@ -1,24 +1,14 @@
 -- The events of a keyboard, of all that its URBs brought back.
-use Rattle.std.specs.Prelude.{ℕ, ◌++◌, not, nat_le, if◌then◌else◌, List, [], ◌∷◌, map, filter, filter_map, take, drop, length, replicate, Option, Some, None}
+use Rattle.std.specs.Prelude.{ℕ, ◌++◌, not, nat_le, if◌then◌else◌, List, [], ◌∷◌, map, filter, filter_map, take, length, replicate, Option, Some, None}
 use Rattle.usb_types.specs.declared.errno.Code.{Code}
 use Rattle.usb_types.specs.declared.errno.Code.TheVariants.{Zero}
 use Rattle.usb_types.specs.declared.urb.Role.{Role}
 use Rattle.usb_types.specs.declared.urb.Role.TheVariants.{In, Ctl}
-use Rattle.usb_machine.specs.declared.transfer.Transfer.{Transfer}
+use Rattle.usb_machine.specs.Completion.{Completion, moved_bytes}
 use Rattle.usb_hid.specs.declared.event.Event.{Event}
 use Rattle.usb_hid.specs.declared.event.Event.TheVariants.{Led}
 use Rattle.usb_hid.specs.Reports.{modifiers_of, codes_of, is_roll_over}
 use Rattle.usb_hid.specs.Changes.{modifier_changes, code_changes}
-
--- an URB of the keyboard came back: what it is for, its status, and the bytes that were moved
-pub record Completion : Type 0 where
-  pub role : Role
-  pub status : Code
-  pub moved : List ℕ
-
--- the moved bytes are the first ones of the window
-abbrev pub completion : Role → Code → Transfer → Completion
-completion role status t = record { role = role; status = status; moved = take t.actual (drop t.from t.buf) }
 
 -- a read that succeeded with eight bytes or more begins with a report
 abbrev pub report_in : Role → Code → List ℕ → Option (List ℕ)
@@ -27,7 +17,7 @@ report_in role status moved = None
 
 -- the reports that a keyboard made, in order
 abbrev pub reports : List Completion → List (List ℕ)
-reports done = filter_map (λ (c : Completion). report_in c.role c.status c.moved) done
+reports done = filter_map (λ (c : Completion). report_in c.role c.status (moved_bytes c.transfer)) done
 
 abbrev pub last_of : {X : Type 0} → X → List X → X
 last_of x [] = x
@@ -55,7 +45,7 @@ light_events role status moved = []
 -- the events of one completion, which came after all these
 abbrev pub events_of : List Completion → Completion → List Event
 events_of before c =
-    report_events (modifiers_after before) (codes_after before) (report_in c.role c.status c.moved) ++ light_events c.role c.status c.moved
+    report_events (modifiers_after before) (codes_after before) (report_in c.role c.status (moved_bytes c.transfer)) ++ light_events c.role c.status (moved_bytes c.transfer)
 
 abbrev pub events_behind : List Completion → List Completion → List Event
 events_behind before [] = []

@@ -7,7 +7,7 @@ use crate::event::Event;
 use std::alloc::{AllocError, Global};
 use std::marker::Model;
 use usb_machine::Transfer;
-use usb_types::{Action, Code, Errno, List, Memory, Role};
+use usb_types::{Action, Code, List, Memory, Role};
 
 /// The core of a boot keyboard's driver. It keeps what stands of the reports, and all events so far.
 #[derive(Drop)]
@@ -27,7 +27,7 @@ impl Model for Keyboard {
 
 impl Keyboard {
     ghost use Rattle.usb_machine.specs.Shapes.{HasWindow};
-    ghost use Rattle.usb_hid.specs.Keys.{Completion, completion};
+    ghost use Rattle.usb_machine.specs.Completion.{Completion};
     ghost use Rattle.usb_hid.specs.Changes.{modifier_changes, code_changes, Grown};
     ghost use Rattle.usb_hid.specs.Keyboard.{KeyboardState, Notes, IsAfter, IsOfKeyboard};
     ghost use Rattle.usb_types.specs.declared.urb.Role.TheVariants.{In, Ctl};
@@ -64,32 +64,33 @@ impl Keyboard {
         requires role { IsOfKeyboard role }
         requires window { HasWindow t.now }
         ensures action { IfOk result (λ action. action ≡ action_of role code t.now) }
-        ensures stands { (done : List Completion) → IsAfter self.old done → OnOk result (IsAfter self.new (done ++ completion role code t.now ∷ [])) }
+        ensures stands { (done : List Completion) → IsAfter self.old done → OnOk result (IsAfter self.new (done ++ record { role = role; status = code; transfer = t.now } ∷ [])) }
         ensures memory { OnErr result (self.new ≡ self.old) }
     {
-        let from = t.from as usize;
-        let moved = &t.buf.bytes()[from..from + t.actual as usize];
-        self.note(role, code, moved)?;
+        self.note(role, code, t)?;
         Ok(action(role, code, t))
     }
 
-    /// Takes note of an URB that came back, by the bytes that were moved. An `Err` changes nothing.
-    fn note(&mut self, role: Role, code: Code, moved: &[u8]) -> Result<(), Memory>
-        ensures ok { OnOk result (Notes self.old self.new record { role = role; status = code; moved = moved.now }) }
+    /// Takes note of an URB that came back. An `Err` changes nothing.
+    fn note(&mut self, role: Role, code: Code, t: &Transfer) -> Result<(), Memory>
+        requires { HasWindow t.now }
+        ensures ok { OnOk result (Notes self.old self.new record { role = role; status = code; transfer = t.now }) }
         ensures err { OnErr result (self.new ≡ self.old) }
     {
         match (role, code) {
-            (Role::In, Code::Zero) => self.read(moved),
-            (Role::Ctl, Code::Zero) => self.light(moved),
+            (Role::In, Code::Zero) => self.read(t),
+            (Role::Ctl, Code::Zero) => self.light(t),
             _ => Ok(()),
         }
     }
 
-    /// Takes note of a report, where the bytes begin with one. An `Err` changes nothing.
-    fn read(&mut self, moved: &[u8]) -> Result<(), Memory>
-        ensures ok { OnOk result (Notes self.old self.new record { role = In; status = Zero; moved = moved.now }) }
+    /// Takes note of a report, where the bytes that were moved begin with one. An `Err` changes nothing.
+    fn read(&mut self, t: &Transfer) -> Result<(), Memory>
+        requires { HasWindow t.now }
+        ensures ok { OnOk result (Notes self.old self.new record { role = In; status = Zero; transfer = t.now }) }
         ensures err { OnErr result (self.new ≡ self.old) }
     {
+        let moved = t.moved();
         if moved.len() < 8 {
             return Ok(());
         }
@@ -126,11 +127,12 @@ impl Keyboard {
     }
 
     /// Takes note of the lights that were sent, where any were. An `Err` changes nothing.
-    fn light(&mut self, moved: &[u8]) -> Result<(), Memory>
-        ensures ok { OnOk result (Notes self.old self.new record { role = Ctl; status = Zero; moved = moved.now }) }
+    fn light(&mut self, t: &Transfer) -> Result<(), Memory>
+        requires { HasWindow t.now }
+        ensures ok { OnOk result (Notes self.old self.new record { role = Ctl; status = Zero; transfer = t.now }) }
         ensures err { OnErr result (self.new ≡ self.old) }
     {
-        let Some(lights) = moved.first() else {
+        let Some(lights) = t.moved().first() else {
             return Ok(());
         };
         match self.events.push(Event::Led { lights: *lights }) {
@@ -144,11 +146,8 @@ fn action(role: Role, code: Code, t: &Transfer) -> Action
     requires { length t.now.buf < 2 ^ 32 }
     ensures { result ≡ action_of role code t.now }
 {
-    match (role, code) {
-        (Role::In, Code::Zero | Code::Fault(Errno::EPROTO | Errno::EOVERFLOW)) => Action::Again {
-            from: 0,
-            len: t.buf.bytes().len() as u32,
-        },
+    match role {
+        Role::In => t.read_again(code),
         _ => Action::Rest,
     }
 }

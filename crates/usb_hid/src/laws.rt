@@ -1,9 +1,10 @@
 //! What the events of a keyboard mean.
 ghost use Rattle.std.specs.Prelude.{◌≡◌, ◌++◌, ◌∷◌, ℕ, List, true, false};
+ghost use Rattle.usb_machine.specs.Completion.{Completion};
 ghost use Rattle.usb_hid.specs.declared.event.Event.{Event};
 ghost use Rattle.usb_hid.specs.declared.event.Event.TheVariants.{Down, Up};
 ghost use Rattle.usb_hid.specs.Reports.{has};
-ghost use Rattle.usb_hid.specs.Keys.{Completion, key_events, events_behind};
+ghost use Rattle.usb_hid.specs.Keys.{key_events, events_behind};
 ghost use Rattle.usb_hid.specs.Down.{is_down, keys_after, has_modifier_code};
 
 /// What was reported stays reported: completions that follow add events after those so far.

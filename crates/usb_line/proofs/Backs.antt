@@ -44,7 +44,7 @@ use Rattle.usb_line.proofs.Calm.{calm_giveback, linked_giveback}
 use Rattle.usb_line.proofs.Marked.{first_at_home}
 use Rattle.usb_line.proofs.Returning.{left_at, left_else, rounds-push, asked_own, asked_else, asked_none, still_sent, first_apart}
 use Rattle.usb_line.proofs.Asked.{asked_idle, asked_same}
-use Rattle.usb_line.proofs.Lookups.{each_set}
+use Rattle.usb_device.proofs.Lookups.{each_set}
 
 -- no reply moves a transfer that has moved nothing
 no_bytes : (t : Transfer) → t.actual ≡ 0 → t ≡ with_bytes t []

@@ -4,7 +4,8 @@ use Rattle.usb_machine.specs.declared.layout.Shape.{Shape}
 use Rattle.usb_machine.specs.declared.transfer.Transfer.{Transfer}
 use Rattle.usb_xfer.specs.Direction.{In, Out, ControlIn, ControlOut, goes_in, is_control, setup_in}
 use Rattle.usb_xfer.specs.Moved.{acked_in}
-use Rattle.usb_line.specs.GivebackRow.{moved_bytes, sent_bytes}
+use Rattle.usb_machine.specs.Completion.{moved_bytes}
+use Rattle.usb_line.specs.GivebackRow.{sent_bytes}
 
 sent_by_way : (control data_in packets_in : Bool) (t : Transfer) → acked_in (cond control (cond data_in ControlIn ControlOut) (cond packets_in In Out)) t ≡ cond (not control && not packets_in) (moved_bytes t) []
 sent_by_way true true packets_in t = refl

@@ -28,7 +28,7 @@ use Rattle.usb_line.specs.Prepared.{script_in, script_of}
 use Rattle.usb_line.specs.Due.{is_ruled, heard_before, answers_from, next_due}
 use Rattle.usb_line.specs.Line.{Progress, asks}
 use Rattle.usb_line.specs.Shows.{asked_now, ShowsDevice, ShowsDevices}
-use Rattle.usb_line.proofs.Lookups.{each_set}
+use Rattle.usb_device.proofs.Lookups.{each_set}
 use Rattle.usb_line.proofs.Controls.{zero_control}
 use Rattle.usb_line.proofs.Questions.{control_moves, tame_too}
 use Rattle.usb_line.proofs.Chained.{calls_at, asked_here, asked_elsewhere, answers, length-answers, raw_answers, unhalted_answers, ruled_answers, all_same, Heard, chain}

@@ -26,7 +26,7 @@ use Rattle.usb_bind.specs.declared.bound.Bound.{Bound}
 use Rattle.usb_bind.specs.declared.row.Driver.{Driver}
 use Rattle.usb_bind.specs.declared.row.Driver.TheVariants.{Keyboard, Acm, Printer}
 use Rattle.usb_class.specs.declared.class_core.Core.{Core}
-use Rattle.usb_class.specs.Done.{Done}
+use Rattle.usb_machine.specs.Completion.{Completion}
 use Rattle.usb_class.specs.Origin.{Origin}
 use Rattle.usb_class.specs.Roles.{role_in}
 use Rattle.usb_class.specs.Questions.{question_by, is_answer, still_out}
@@ -49,16 +49,16 @@ use Rattle.usb_line.specs.Line.{submit_answer, outcome_by}
 use Rattle.usb_line.specs.Shows.{ShowsCores}
 use Rattle.usb_line.specs.Back.{Noted, CanAsk, CanPoseQuestion, CanSettle, GaveQuestion, QuestionOf, QuestionWith, QuestionBy, Settled, IsPosedBy, ArePosed}
 use Rattle.usb_line.proofs.Owners.{owner_bound}
-use Rattle.usb_line.proofs.Lookups.{each_set}
+use Rattle.usb_device.proofs.Lookups.{each_set}
 
 -- the cores have seen so much each, and their questions are out or not
-pub record HasCores (s : Scene) (done : ℕ → List Done) (outs : ℕ → Bool) (cores : List Core) : Type 0 where
+pub record HasCores (s : Scene) (done : ℕ → List Completion) (outs : ℕ → Bool) (cores : List Core) : Type 0 where
   pub all : length cores ≡ length (bindings_of s)
   pub each : (k : ℕ) (core : Core) (b : Bound) → slice_get cores k ≡ Some core → slice_get (bindings_of s) k ≡ Some b → IsCore b.driver (origin_of s k) (done k) core
   pub out : (k : ℕ) (core : Core) → slice_get cores k ≡ Some core → is_asking core ≡ outs k
 
 -- with another core at one place
-has_set : (s : Scene) (done more : ℕ → List Done) (out now : ℕ → Bool) (old new : List Core) (p : ℕ) (core : Core) (b : Bound) → HasCores s done out old → new ≡ slice_set old p core
+has_set : (s : Scene) (done more : ℕ → List Completion) (out now : ℕ → Bool) (old new : List Core) (p : ℕ) (core : Core) (b : Bound) → HasCores s done out old → new ≡ slice_set old p core
     → slice_get (bindings_of s) p ≡ Some b → IsCore b.driver (origin_of s p) (more p) core → is_asking core ≡ now p → ((j : ℕ) → j ≢ p → (more j ≡ done j) × (now j ≡ out j)) → HasCores s more now new
 has_set s done more out now old new p core b has is bound seen asking others = record {
   all = ap (λ l. length l) is ∙ (length-set old p core ∙ has.all);
@@ -70,7 +70,7 @@ has_set s done more out now old new p core b has is bound seen asking others = r
   out = each_set (λ j c. is_asking c ≡ out j) (λ j c. is_asking c ≡ now j) old new p core is has.out asking (λ j c off old. old ∙ sym (others j off).1);
 }
 
-has_same : (s : Scene) (done more : ℕ → List Done) (out now : ℕ → Bool) (old new : List Core) → HasCores s done out old → new ≡ old → ((j : ℕ) → (more j ≡ done j) × (now j ≡ out j)) → HasCores s more now new
+has_same : (s : Scene) (done more : ℕ → List Completion) (out now : ℕ → Bool) (old new : List Core) → HasCores s done out old → new ≡ old → ((j : ℕ) → (more j ≡ done j) × (now j ≡ out j)) → HasCores s more now new
 has_same s done more out now old new has is others = record {
   all = ap (λ l. length l) is ∙ has.all;
   each = λ k c b at held. subst (λ l. IsCore b.driver (origin_of s k) l c) (sym (others k).0) (has.each k c b (ap (λ l. slice_get l k) (sym is) ∙ at) held);
@@ -84,19 +84,19 @@ module _ (s : Scene) (rounds : List Giveback) (r : Giveback) where
 
   -- what the drivers hear of the giveback
   heard_none : (j : ℕ) → done_in s j r ≡ None → done_at s j (rounds ++ r ∷ []) ≡ done_at s j rounds
-  heard_none j is = filter_map-append (done_in s j) rounds (r ∷ []) ∙ (ap (λ (o : Option Done). done_at s j rounds ++ filter_map (λ (x : Giveback). o) (r ∷ [])) is ∙ append-nil (done_at s j rounds))
+  heard_none j is = filter_map-append (done_in s j) rounds (r ∷ []) ∙ (ap (λ (o : Option Completion). done_at s j rounds ++ filter_map (λ (x : Giveback). o) (r ∷ [])) is ∙ append-nil (done_at s j rounds))
 
-  heard_one : (j : ℕ) (d : Done) → done_in s j r ≡ Some d → done_at s j (rounds ++ r ∷ []) ≡ done_at s j rounds ++ d ∷ []
-  heard_one j d is = filter_map-append (done_in s j) rounds (r ∷ []) ∙ ap (λ (o : Option Done). done_at s j rounds ++ filter_map (λ (x : Giveback). o) (r ∷ [])) is
+  heard_one : (j : ℕ) (d : Completion) → done_in s j r ≡ Some d → done_at s j (rounds ++ r ∷ []) ≡ done_at s j rounds ++ d ∷ []
+  heard_one j d is = filter_map-append (done_in s j) rounds (r ∷ []) ∙ ap (λ (o : Option Completion). done_at s j rounds ++ filter_map (λ (x : Giveback). o) (r ∷ [])) is
 
   -- whether a question is out after it
   out_push : (j : ℕ) → is_out s j (rounds ++ r ∷ []) ≡ out_after s j (before j) r
   out_push j = fold-append (out_after s j) false rounds (r ∷ [])
 
-  abbrev heard_as : Owner → Done
+  abbrev heard_as : Owner → Completion
   heard_as o = record { role = o.role; status = r.status; transfer = moved_in s r }
 
-  abbrev heard_by : ℕ → Option Owner → Option Done
+  abbrev heard_by : ℕ → Option Owner → Option Completion
   heard_by j o = option_and_then (λ (o : Owner). cond (eqb o.place j) (Some (heard_as o)) None) o
 
   abbrev answered_at : ℕ → Option Owner → Bool

@@ -45,7 +45,8 @@ use Rattle.usb_line.specs.declared.made.Outcome.TheVariants as outcome
 use Rattle.usb_line.specs.declared.run.UrbRow.{UrbRow}
 use Rattle.usb_line.specs.declared.run.LineRun.{LineRun}
 use Rattle.usb_line.specs.Prepared.{owner_of}
-use Rattle.usb_line.specs.Shows.{IsApt, rank, behind, held, turns_left}
+use Rattle.usb_machine.specs.Completion.{after_window}
+use Rattle.usb_line.specs.Shows.{IsApt, rank, held, turns_left}
 use Rattle.usb_line.specs.Back.{is_again, left_by, row_back}
 use Rattle.usb_line.proofs.Owners.{owner_end}
 
@@ -93,19 +94,19 @@ module _ (owner : Option Owner) (t now : Transfer) (action : Action) where
   back_rests (outcome.Asked code) n is = back_none (outcome.Asked code) n refl
   back_rests (outcome.Again code) n is = absurd (true≢false is)
 
-  back_keeps : (o : Outcome) (n : ℕ) → behind (window_by action now) ≤ behind t → left_back o n ≤ n + held owner (Some t)
+  back_keeps : (o : Outcome) (n : ℕ) → after_window (window_by action now) ≤ after_window t → left_back o n ≤ n + held owner (Some t)
   back_keeps (outcome.Again Zero) n less = omega arith
   back_keeps (outcome.Again (Fault c)) n less = let fell = back_none (outcome.Again (Fault c)) n refl in omega arith
   back_keeps outcome.Rest n less = let fell = back_none outcome.Rest n refl in omega arith
   back_keeps (outcome.Asked code) n less = let fell = back_none (outcome.Asked code) n refl in omega arith
 
-  back_behind : (o : Outcome) (n : ℕ) → behind (window_by action now) < behind t → left_back o n < n + held owner (Some t)
+  back_behind : (o : Outcome) (n : ℕ) → after_window (window_by action now) < after_window t → left_back o n < n + held owner (Some t)
   back_behind (outcome.Again Zero) n less = omega arith
   back_behind (outcome.Again (Fault c)) n less = back_none (outcome.Again (Fault c)) n refl
   back_behind outcome.Rest n less = back_none outcome.Rest n refl
   back_behind (outcome.Asked code) n less = back_none (outcome.Asked code) n refl
 
-  back_again : (o : Outcome) (n : ℕ) → is_again o ≡ nat_lt 0 n → behind (window_by action now) ≤ behind t → left_back o n < n + held owner (Some t)
+  back_again : (o : Outcome) (n : ℕ) → is_again o ≡ nat_lt 0 n → after_window (window_by action now) ≤ after_window t → left_back o n < n + held owner (Some t)
   back_again (outcome.Again Zero) n is less = let some = some_left n is in omega arith
   back_again (outcome.Again (Fault c)) n is less = back_none (outcome.Again (Fault c)) n refl
   back_again outcome.Rest n is less = back_none outcome.Rest n refl
@@ -133,7 +134,7 @@ module _ (run new : LineRun) (u : ℕ) (row : UrbRow) (t now : Transfer) (at : s
   falls_row less keeps = let after = sum in let fell = sum_falls weight run.urbs.items u row (row_back o action now mid) at less in omega arith
 
   -- it comes back by the scene's leave
-  pub falls_own : is_again o ≡ nat_lt 0 mid.again → behind (window_by action now) ≤ behind t → all_left new.devices.items ≤ all_left run.devices.items → turns_left new < turns_left run
+  pub falls_own : is_again o ≡ nat_lt 0 mid.again → after_window (window_by action now) ≤ after_window t → all_left new.devices.items ≤ all_left run.devices.items → turns_left new < turns_left run
   falls_own is stays keeps =
       let before = was in let after = left_now in let less = back_again row.owner t now action o row.again (is ∙ ap (nat_lt 0) same) stays in falls_row (omega arith) keeps
 
@@ -143,13 +144,13 @@ module _ (run new : LineRun) (u : ℕ) (row : UrbRow) (t now : Transfer) (at : s
       let before = was in let after = left_now in let less = back_rests row.owner t now action o row.again is in falls_row (omega arith) keeps
 
   -- it used an item
-  pub falls_spent : behind (window_by action now) ≤ behind t → all_left new.devices.items < all_left run.devices.items → turns_left new < turns_left run
+  pub falls_spent : after_window (window_by action now) ≤ after_window t → all_left new.devices.items < all_left run.devices.items → turns_left new < turns_left run
   falls_spent stays less =
       let before = was in let after = left_now in let keeps = back_keeps row.owner t now action o row.again stays in let added = sum in
       let rows = sum_keeps weight run.urbs.items u row (row_back o action now mid) at (omega arith) in omega arith
 
   -- it goes on after its window
-  pub falls_behind : behind (window_by action now) < behind t → all_left new.devices.items ≤ all_left run.devices.items → turns_left new < turns_left run
+  pub falls_behind : after_window (window_by action now) < after_window t → all_left new.devices.items ≤ all_left run.devices.items → turns_left new < turns_left run
   falls_behind on keeps =
       let before = was in let after = left_now in let less = back_behind row.owner t now action o row.again on in falls_row (omega arith) keeps
 
@@ -164,7 +165,7 @@ set_other (z ∷ xs) (suc i) (suc j) y x off at = set_other xs i j y x (λ q. of
 -- a driver that rests a job and asks has less left, since its question weighs less
 pub falls_asked : (run new : LineRun) (u : ℕ) (row : UrbRow) (t now : Transfer) → slice_get run.urbs.items u ≡ Some row → Some t ≡ row.transfer → (o : Outcome) (action : Action) (mid : UrbRow) → mid.again ≡ row.again → mid.owner ≡ row.owner
     → is_again o ≡ false → rank row.owner ≡ 2
-    → (v : ℕ) (asked : UrbRow) (q : Transfer) → v ≢ u → slice_get run.urbs.items v ≡ Some asked → asked.transfer ≡ None → rank asked.owner ≡ 1 → behind q ≡ 0
+    → (v : ℕ) (asked : UrbRow) (q : Transfer) → v ≢ u → slice_get run.urbs.items v ≡ Some asked → asked.transfer ≡ None → rank asked.owner ≡ 1 → after_window q ≡ 0
     → new.urbs.items ≡ slice_set (slice_set run.urbs.items u (row_back o action now mid)) v (record asked { transfer = Some q })
     → all_left new.devices.items ≤ all_left run.devices.items → turns_left new < turns_left run
 falls_asked run new u row t now at had o action mid same owned is job v asked q off there idle ctl none rows keeps =
@@ -183,7 +184,7 @@ falls_asked run new u row t now at had o action mid same owned is job v asked q 
     rests (outcome.Again code) is = absurd (true≢false is)
 
 -- an URB that waits has as much left
-pub waits_keeps : (run new : LineRun) (u : ℕ) (row : UrbRow) (t now : Transfer) → slice_get run.urbs.items u ≡ Some row → Some t ≡ row.transfer → behind now ≡ behind t → new.urbs.items ≡ slice_set run.urbs.items u (record row { transfer = Some now })
+pub waits_keeps : (run new : LineRun) (u : ℕ) (row : UrbRow) (t now : Transfer) → slice_get run.urbs.items u ≡ Some row → Some t ≡ row.transfer → after_window now ≡ after_window t → new.urbs.items ≡ slice_set run.urbs.items u (record row { transfer = Some now })
     → all_left new.devices.items ≤ all_left run.devices.items → turns_left new ≤ turns_left run
 waits_keeps run new u row t now at had stays rows keeps =
     let before = weight_was row t had in
@@ -195,16 +196,16 @@ same_buffer : (buf : List ℕ) (from : ℕ) (bytes : List ℕ) → from + length
 same_buffer buf from bytes l = grind (arith, common_steps)
 
 -- what a transfer has after its window stays, however it is moved
-with_behind : (t : Transfer) (bytes : List ℕ) → HasWindow t → length bytes ≤ t.len → behind (with_bytes t bytes) ≡ behind t
+with_behind : (t : Transfer) (bytes : List ℕ) → HasWindow t → length bytes ≤ t.len → after_window (with_bytes t bytes) ≡ after_window t
 with_behind t bytes has fits = let within = has.window in ap (λ n. n - (t.from + t.len)) (same_buffer t.buf t.from bytes (omega arith))
 
-moved_behind_by : (d : Direction) (max : ℕ) (t : Transfer) (replies : List Reply) → HasWindow t → HasWindow (moved_by d max t replies) → behind (moved_by d max t replies) ≡ behind t
+moved_behind_by : (d : Direction) (max : ℕ) (t : Transfer) (replies : List Reply) → HasWindow t → HasWindow (moved_by d max t replies) → after_window (moved_by d max t replies) ≡ after_window t
 moved_behind_by Input max t replies has now = with_behind t (good_bytes max t.len [] replies) has now.within
 moved_behind_by Out max t replies has now = refl
 moved_behind_by ControlIn max t replies has now = with_behind t (data_in t.len replies) has now.within
 moved_behind_by ControlOut max t replies has now = refl
 
-pub moved_behind : (shape : Shape) (t : Transfer) (replies : List Reply) → HasWindow t → behind (moved shape t replies) ≡ behind t
+pub moved_behind : (shape : Shape) (t : Transfer) (replies : List Reply) → HasWindow t → after_window (moved shape t replies) ≡ after_window t
 moved_behind shape t replies has = moved_behind_by (direction_of shape t) shape.max t replies has (moved_window shape t replies has)
 
 -- a device that replies has no more items left, and fewer where its last reply came from one
@@ -226,13 +227,13 @@ module _ (devices new : List Scripted) (d : ℕ) (x y : Scripted) (at : slice_ge
   devices_fall less = let same = ap all_left is in let fell = sum_falls items_left devices d x y at less in omega arith
 
 -- what a driver goes on with stands not further back, and a job further on
-pub job_narrows : (driver : Driver) (status : Code) (t : Transfer) (from len : ℕ) → action_of driver Write status t ≡ action.Again from len → behind (window_by (action.Again from len) t) < behind t
+pub job_narrows : (driver : Driver) (status : Code) (t : Transfer) (from len : ℕ) → action_of driver Write status t ≡ action.Again from len → after_window (window_by (action.Again from len) t) < after_window t
 job_narrows driver status t from len is = let next = again_writes driver status t from len is in let start = next.0 in let within = next.1 in let some = next.2 in omega arith
 
-pub again_narrows : (driver : Driver) (role : Role) (status : Code) (t : Transfer) (from len : ℕ) → action_of driver role status t ≡ action.Again from len → behind (window_by (action.Again from len) t) ≤ behind t
+pub again_narrows : (driver : Driver) (role : Role) (status : Code) (t : Transfer) (from len : ℕ) → action_of driver role status t ≡ action.Again from len → after_window (window_by (action.Again from len) t) ≤ after_window t
 again_narrows driver role status t from len is = go role is (is_write role) refl
   where
-    go : (role : Role) → action_of driver role status t ≡ action.Again from len → (b : Bool) → is_write role ≡ b → behind (window_by (action.Again from len) t) ≤ behind t
+    go : (role : Role) → action_of driver role status t ≡ action.Again from len → (b : Bool) → is_write role ≡ b → after_window (window_by (action.Again from len) t) ≤ after_window t
     go Write is true e = let less = job_narrows driver status t from len is in omega arith
     go role is true e = absurd (true≢false (sym e))
     go role is false e = let read = again_reads driver role status t from len is e in let start = read.0 in let all = read.1 in omega arith

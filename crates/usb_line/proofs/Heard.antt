@@ -1,16 +1,14 @@
 -- What a printer's driver hears of its writes is what comes back with their URB.
 use Rattle.std.proofs.Common.{ℕ, ◌≡◌, ◌≢◌, Bool, true, false, cond, eqb, Option, Some, None, List, [], ◌∷◌, filter, refl, sym, ap, ◌∙◌, subst, eq-eqb}
-use Rattle.std.specs.Prelude.{map, slice_get, option_and_then}
+use Rattle.std.specs.Prelude.{slice_get, option_and_then}
 use Rattle.std.specs.List.{filter_map, cons_option}
 use Rattle.usb_types.specs.declared.urb.UrbId.{UrbId}
 use Rattle.usb_types.specs.declared.urb.Role.{Role}
 use Rattle.usb_types.specs.declared.urb.Role.TheVariants.{Write}
+use Rattle.usb_machine.specs.Completion.{Completion}
 use Rattle.usb_machine.proofs.Places.{by_test}
 use Rattle.usb_bind.specs.declared.bound.Bound.{Bound}
 use Rattle.usb_bind.specs.Board.{urb_of_role}
-use Rattle.usb_printer.specs.Jobs.{Completion}
-use Rattle.usb_class.specs.Done.{Done}
-use Rattle.usb_class.specs.Told.{printer_heard}
 use Rattle.usb_scene.specs.declared.scene.Scene.{Scene}
 use Rattle.usb_prepare.specs.Prepared.{bindings_of}
 use Rattle.usb_line.specs.declared.owner.Owner.{Owner}
@@ -38,14 +36,14 @@ module _ (s : Scene) (u : ℕ) (writer : IsForWrites s u) where
       let ids : v_id ≡ u_id = cc in
       ap (λ (x : UrbId). x.0) ids
 
-  abbrev hears : List Done → List Completion
-  hears done = map printer_heard (filter (λ (d : Done). is_write d.role) done)
+  abbrev hears : List Completion → List Completion
+  hears done = filter (λ (c : Completion). is_write c.role) done
 
-  module _ (r : Giveback) (done : List Done) (more : List Giveback) (old : hears done ≡ writes_of s more) where
-    abbrev done_as : Role → Done
+  module _ (r : Giveback) (done : List Completion) (more : List Giveback) (old : hears done ≡ writes_of s more) where
+    abbrev done_as : Role → Completion
     done_as role = record { role = role; status = r.status; transfer = moved_in s r }
 
-    abbrev done_by : Option Owner → Option Done
+    abbrev done_by : Option Owner → Option Completion
     done_by o = option_and_then (λ (o : Owner). cond (eqb o.place k) (Some (done_as o.role)) None) o
 
     own : r.urb ≡ u → hears (cons_option (done_in s k r) done) ≡ write_of s r ∷ writes_of s more

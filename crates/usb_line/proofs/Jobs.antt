@@ -24,7 +24,7 @@ use Rattle.usb_line.specs.declared.made.Outcome.{Outcome}
 use Rattle.usb_line.specs.declared.made.Outcome.TheVariants as outcome
 use Rattle.usb_line.specs.Prepared.{owner_of, DriverQuestion, question_at}
 use Rattle.usb_line.specs.Run.{CallRecord, Giveback, IsRun, moved_in, resent, giveback_entries, may_again, question_out, asks_or_rests, action_by, acts, IsHandled, AreHandled}
-use Rattle.usb_line.specs.RunLaws.{takes_packets, write_of, writes_of, IsRefused, IsCutOff, IsPrinted, IsForWrites}
+use Rattle.usb_line.specs.RunLaws.{takes_packets, write_of, writes_of, IsRefused, IsCutOff, IsJobInRun, IsForWrites}
 use Rattle.usb_line.proofs.OneStatus.{sent_window}
 use Rattle.usb_line.proofs.Carrying.{carry, carried_of, stands, sent_as, none_left}
 use Rattle.usb_line.proofs.Firsts.{IsFromZero, Leaves, IsLeft, left_own, left_other, carried_on, begins_at_first}
@@ -110,7 +110,7 @@ record Parted (s : Scene) (r : Giveback) (rs : List Giveback) : Type 0 where
   pub jobs : List (List Giveback)
   pub parts : r ∷ rs ≡ r ∷ (job ++ flat_map (λ (l : List Giveback). l) jobs)
   pub over : IsOver s (r ∷ job)
-  pub others : All (IsPrinted s) jobs
+  pub others : All (IsJobInRun s) jobs
 
 module _ (s : Scene) where
   abbrev asked_by : Giveback → Action
@@ -143,7 +143,7 @@ module _ (s : Scene) where
   longer r next more back moved (inr cut) = inr (back.window, moved, cut)
 
   part : (r : Giveback) (rs : List Giveback) → IsBack s r → AreLinked (Some r) rs → Parted s r rs
-  part r [] back end = record { job = []; jobs = []; parts = refl; over = alone r back end; others = All-nil (IsPrinted s) }
+  part r [] back end = record { job = []; jobs = []; parts = refl; over = alone r back end; others = All-nil (IsJobInRun s) }
   part r (next ∷ rs) back linked = go r.outcome refl linked.0 (part next rs linked.1 linked.2)
     where
       fresh_job : IsEnd r.outcome → (moved_in s next).from ≡ 0 → Parted s next rs → Parted s r (next ∷ rs)
@@ -152,7 +152,7 @@ module _ (s : Scene) where
         jobs = (next ∷ rest.job) ∷ rest.jobs;
         parts = ap (λ l. r ∷ l) (rest.parts ∙ sym (flat_map-cons (λ (l : List Giveback). l) (next ∷ rest.job) rest.jobs));
         over = alone r back end;
-        others = All-cons (IsPrinted s) (next ∷ rest.job) rest.jobs (zero, rest.over) rest.others;
+        others = All-cons (IsJobInRun s) (next ∷ rest.job) rest.jobs (zero, rest.over) rest.others;
       }
 
       go : (o : Outcome) → r.outcome ≡ o → NextBy r o next → Parted s next rs → Parted s r (next ∷ rs)
@@ -254,11 +254,11 @@ module _ (s : Scene) where
         (λ other. linked (before ++ r ∷ []) behind more last is (subst (IsLeft s last) (sym (carried_on s u before r)) (left_other s u r last (left_by before) other left)))
 
   pub are_jobs : (h : List Entry) (call_records : List CallRecord) (rounds : List Giveback) → IsRun s h call_records rounds → (u : ℕ) → IsForWrites s u
-      → (jobs : List (List Giveback)) × (filter (λ r. eqb r.urb u) rounds ≡ flat_map (λ (l : List Giveback). l) jobs) × (All (IsPrinted s) jobs)
+      → (jobs : List (List Giveback)) × (filter (λ r. eqb r.urb u) rounds ≡ flat_map (λ (l : List Giveback). l) jobs) × (All (IsJobInRun s) jobs)
   are_jobs h call_records rounds run u writer = go (mine u rounds) (linked h call_records rounds run u writer [] rounds refl None tt tt)
     where
-      go : (l : List Giveback) → AreLinked None l → (jobs : List (List Giveback)) × (l ≡ flat_map (λ (l : List Giveback). l) jobs) × (All (IsPrinted s) jobs)
-      go [] linked = ([], refl, All-nil (IsPrinted s))
+      go : (l : List Giveback) → AreLinked None l → (jobs : List (List Giveback)) × (l ≡ flat_map (λ (l : List Giveback). l) jobs) × (All (IsJobInRun s) jobs)
+      go [] linked = ([], refl, All-nil (IsJobInRun s))
       go (r ∷ rs) linked =
           let p = part r rs linked.1 linked.2 in
-          ((r ∷ p.job) ∷ p.jobs, p.parts ∙ sym (flat_map-cons (λ (l : List Giveback). l) (r ∷ p.job) p.jobs), All-cons (IsPrinted s) (r ∷ p.job) p.jobs (linked.0, p.over) p.others)
+          ((r ∷ p.job) ∷ p.jobs, p.parts ∙ sym (flat_map-cons (λ (l : List Giveback). l) (r ∷ p.job) p.jobs), All-cons (IsJobInRun s) (r ∷ p.job) p.jobs (linked.0, p.over) p.others)

@@ -30,7 +30,8 @@ use Rattle.usb_line.specs.Prepared.{machine_of, owner_of}
 use Rattle.usb_line.specs.Due.{next_due}
 use Rattle.usb_line.specs.Run.{Giveback, is_first, asked_of, resent}
 use Rattle.usb_line.specs.Line.{Progress, asks, asked_so_far, marked_of, replies_had, had_after, GoesTo, IsServed, round_of, given_back, waits, over, stops}
-use Rattle.usb_line.specs.Shows.{HoldsTransfer, ShowsUrb, ShowsEnd, ShowsDevices, asked_now, Shows, behind, turns_left, ShowsCores}
+use Rattle.usb_machine.specs.Completion.{after_window}
+use Rattle.usb_line.specs.Shows.{HoldsTransfer, ShowsUrb, ShowsEnd, ShowsDevices, asked_now, Shows, turns_left, ShowsCores}
 use Rattle.usb_line.specs.Back.{MayGive, GaveBack}
 use Rattle.usb_line.specs.Turned.{code_of, SameElse, TakesOut, MovedOn, FallsAsleep, FirstAwake, EndsAt, PassesBy}
 use Rattle.usb_line.proofs.MayFollow.{once}
@@ -41,7 +42,8 @@ use Rattle.usb_line.proofs.Questions.{control_moved}
 use Rattle.usb_line.proofs.Asked.{asked_first, asked_same}
 use Rattle.usb_line.proofs.Turns.{outcome_gated, clear_mark}
 use Rattle.usb_line.proofs.Backs.{asked_taken, asked_others}
-use Rattle.usb_line.proofs.Lookups.{set_read, set_twice, each_set}
+use Rattle.usb_device.proofs.Lookups.{each_set}
+use Rattle.usb_line.proofs.Lookups.{set_read, set_twice}
 use Rattle.usb_line.proofs.Pendings.{IsHeld, held_transfer}
 use Rattle.usb_line.proofs.Chained.{goes}
 use Rattle.usb_line.proofs.Devices.{replies_due, devices_asked}
@@ -156,8 +158,8 @@ module _ (s : Scene) (good : IsWellFormed s) (f : Progress) (run out_run on : Li
   mid_same = record { plain = moves.same.plain ∙ out.same.plain; told = moves.same.told ∙ out.same.told; host = moves.same.host ∙ out.same.host; cores = moves.same.cores ∙ out.same.cores }
 
   -- as much stands after its window
-  stood : behind now ≡ behind t
-  stood = ap behind moved_now ∙ (moved_behind (shape_at s e) start (had_after s f e start n) has.sent_window ∙ sym (ap behind has.moving.moving ∙ moved_behind (shape_at s e) start (replies_had s f u) has.sent_window))
+  stood : after_window now ≡ after_window t
+  stood = ap after_window moved_now ∙ (moved_behind (shape_at s e) start (had_after s f e start n) has.sent_window ∙ sym (ap after_window has.moving.moving ∙ moved_behind (shape_at s e) start (replies_had s f u) has.sent_window))
 
   -- it ended, and came back
   module _ (ending : Code) (is : code ≡ Some ending) (new : LineRun) (back : GaveBack on new u (Some ending) now) (unmarked : marked_of s h ≡ []) (awake : f.asleep e ≡ false) where

@@ -28,7 +28,8 @@ use Rattle.usb_line.specs.Shows.{IsMoving, HoldsTransfer, Shows}
 use Rattle.usb_line.specs.Back.{CanNote, CanAsk}
 use Rattle.usb_line.proofs.Homes.{home_shape}
 use Rattle.usb_prepare.proofs.Facts.{home_near}
-use Rattle.usb_line.proofs.Lookups.{each_set, set_read}
+use Rattle.usb_device.proofs.Lookups.{each_set}
+use Rattle.usb_line.proofs.Lookups.{set_read}
 use Rattle.usb_line.proofs.Cores.{row_core, row_asks}
 use Rattle.usb_line.proofs.Scanning.{pending_known}
 

@@ -20,7 +20,8 @@ use Rattle.usb_prepare.specs.Layout.{urb_count}
 use Rattle.usb_prepare.proofs.Facts.{bound_near, urb_once}
 use Rattle.usb_line.specs.declared.owner.Owner.{Owner}
 use Rattle.usb_line.specs.Prepared.{owner_from, owner_of, origin_of, DriverQuestion, question_with, owner_question, question_at}
-use Rattle.usb_line.specs.Shows.{IsApt, rank, behind}
+use Rattle.usb_machine.specs.Completion.{after_window}
+use Rattle.usb_line.specs.Shows.{IsApt, rank}
 use Rattle.usb_line.specs.Back.{CanPose, CanPoseAny}
 use Rattle.usb_line.proofs.Homes.{has_home, home_shape}
 use Rattle.usb_line.proofs.Owners.{owner_at, owner_bound, owner_ctl}
@@ -145,7 +146,7 @@ asked_rank : (s : Scene) → IsWellFormed s → (u : ℕ) (a : DriverQuestion) �
 asked_rank s good u a is = let x = asking_owner s good u a is in ap rank x.3 ∙ ap (λ role. cond {A = ℕ} (is_ctl role) 1 2) x.5
 
 -- the URB of a job weighs more than the one that the question is asked with, and the question fills its buffer
-pub asking_weighs : (s : Scene) → IsWellFormed s → (u : ℕ) (a : DriverQuestion) → question_at s u ≡ Some a → (rank (owner_of s u) ≡ 2) × (rank (owner_of s a.urb) ≡ 1) × (behind a.transfer ≡ 0)
+pub asking_weighs : (s : Scene) → IsWellFormed s → (u : ℕ) (a : DriverQuestion) → question_at s u ≡ Some a → (rank (owner_of s u) ≡ 2) × (rank (owner_of s a.urb) ≡ 1) × (after_window a.transfer ≡ 0)
 asking_weighs s good u a is =
     let by = asked_by s u a is in (
       ap rank by.owns ∙ ap (λ b. cond {A = ℕ} b 1 2) by.off,

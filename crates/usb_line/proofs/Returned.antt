@@ -34,7 +34,8 @@ use Rattle.usb_line.specs.Prepared.{machine_of, owner_of, again_of, DriverQuesti
 use Rattle.usb_line.specs.Run.{Giveback, moved_in, action_by, is_accepted, may_again, question_out, asks_or_rests, given_entries, giveback_entries, times_back}
 use Rattle.usb_line.specs.Line.{Progress, outcome_by, round_of, given_back}
 use Rattle.usb_line.specs.GivebackRow.{giveback_row, brought_bytes, sent_bytes}
-use Rattle.usb_line.specs.Shows.{IsApt, HoldsTransfer, ShowsDevices, ShowsUrb, Shows, rank, behind, turns_left}
+use Rattle.usb_machine.specs.Completion.{after_window}
+use Rattle.usb_line.specs.Shows.{IsApt, HoldsTransfer, ShowsDevices, ShowsUrb, Shows, rank, turns_left}
 use Rattle.usb_line.specs.Back.{Adds, MayGive, CanPoseAny, is_again, row_back, GaveBack, given_after, Noted, QuestionBy, SettledBy, Settled, IsPosedBy}
 use Rattle.usb_line.specs.Turned.{SameElse}
 use Rattle.usb_line.proofs.Moves.{moved_same}
@@ -46,7 +47,8 @@ use Rattle.usb_line.proofs.DriverQuestions.{IsQuestionPosed, IsSeen, noted_actio
 use Rattle.usb_line.proofs.Resending.{resent_action, resent_apt}
 use Rattle.usb_line.proofs.Backs.{again_by, urb_own, urb_else, urb_posed, end_own, shows_back}
 use Rattle.usb_line.proofs.Falling.{all_left, falls_own, falls_resting, falls_spent, falls_behind, falls_asked, again_narrows, job_narrows}
-use Rattle.usb_line.proofs.Lookups.{each_set, looked_up, set_read, set_twice}
+use Rattle.usb_device.proofs.Lookups.{each_set, looked_up}
+use Rattle.usb_line.proofs.Lookups.{set_read, set_twice}
 
 more_left : (a b : ℕ) → nat_lt b a ≡ nat_lt 0 (a - b)
 more_left a b = grind (arith, nat_tests)
@@ -302,7 +304,7 @@ module _ (s : Scene) (good : IsWellFormed s) (f : Progress) (run : LineRun) (old
     did = ap is_again done.0 ∙ acts
 
     -- fewer turns are left, where a read with which a driver goes on used an item
-    module _ (t : Transfer) (had : Some t ≡ row.transfer) (stood : behind now ≡ behind t) (keeps : all_left mid.devices.items ≤ all_left run.devices.items)
+    module _ (t : Transfer) (had : Some t ≡ row.transfer) (stood : after_window now ≡ after_window t) (keeps : all_left mid.devices.items ≤ all_left run.devices.items)
         (spends : (o : Owner) (m : Transfer) → owner_of s u ≡ Some o → is_write o.role ≡ false → goes_again (action_by (Some o) may_more status m) ≡ true → all_left mid.devices.items < all_left run.devices.items) where
       kept : all_left new.devices.items ≤ all_left run.devices.items
       kept = let same = same_left in omega arith
@@ -322,11 +324,11 @@ module _ (s : Scene) (good : IsWellFormed s) (f : Progress) (run : LineRun) (old
             by_may true e = ap goes_again (is_own true e) ∙ sym e
             by_may false e = ap goes_again (is_own false e) ∙ sym e
 
-            narrow : (b : Bool) → may_more ≡ b → behind (window_by back.action now) ≤ behind t
+            narrow : (b : Bool) → may_more ≡ b → after_window (window_by back.action now) ≤ after_window t
             narrow true e =
                 let same : back.action ≡ action.Again now.from now.len = is_own true e ∙ (λ i. action.Again (sym is i).from (sym is i).len) in
-                let window : behind (window_by back.action now) ≡ behind now = ap (λ a. behind (window_by a now)) same in omega arith
-            narrow false e = let window : behind (window_by back.action now) ≡ behind now = ap (λ a. behind (window_by a now)) (is_own false e) in omega arith
+                let window : after_window (window_by back.action now) ≡ after_window now = ap (λ a. after_window (window_by a now)) same in omega arith
+            narrow false e = let window : after_window (window_by back.action now) ≡ after_window now = ap (λ a. after_window (window_by a now)) (is_own false e) in omega arith
 
         driven : (o : Owner) → owner_of s u ≡ Some o → turns_left new < turns_left run
         driven o own = go back.action refl
@@ -339,13 +341,13 @@ module _ (s : Scene) (good : IsWellFormed s) (f : Progress) (run : LineRun) (old
                 let role : o.role ≡ Write = write_is o.role write in
                 let again = sym (ap (λ role. action_of o.driver role status (moved_in s r)) role) ∙ (sym acts_as ∙ e) in
                 let less = job_narrows o.driver status (moved_in s r) from len again in
-                let window : behind (window_by back.action now) ≡ behind (window_by (action.Again from len) (moved_in s r)) = (λ i. behind (window_by (e i) (is i))) in
-                let same : behind (moved_in s r) ≡ behind t = ap behind (sym is) ∙ stood in
+                let window : after_window (window_by back.action now) ≡ after_window (window_by (action.Again from len) (moved_in s r)) = (λ i. after_window (window_by (e i) (is i))) in
+                let same : after_window (moved_in s r) ≡ after_window t = ap after_window (sym is) ∙ stood in
                 falls_behind run new u row t now at had back.did back.action back.row same_again same_owner plain_rows (omega arith) kept
             narrow from len e false read =
                 let less = again_narrows o.driver o.role status (moved_in s r) from len (sym acts_as ∙ e) in
-                let window : behind (window_by back.action now) ≡ behind (window_by (action.Again from len) (moved_in s r)) = (λ i. behind (window_by (e i) (is i))) in
-                let same : behind (moved_in s r) ≡ behind t = ap behind (sym is) ∙ stood in
+                let window : after_window (window_by back.action now) ≡ after_window (window_by (action.Again from len) (moved_in s r)) = (λ i. after_window (window_by (e i) (is i))) in
+                let same : after_window (moved_in s r) ≡ after_window t = ap after_window (sym is) ∙ stood in
                 let fell = spends o (moved_in s r) own read (ap goes_again (sym acts_as ∙ e)) in
                 falls_spent run new u row t now at had back.did back.action back.row same_again same_owner plain_rows (omega arith) (let same = same_left in omega arith)
 

@@ -38,7 +38,7 @@ use Rattle.usb_line.proofs.Devices.{devices_same}
 use Rattle.usb_line.proofs.Submits.{submit_state, submit_other, submit_pending, submit_sent}
 use Rattle.usb_line.proofs.Calm.{calm_submit, linked_submit, calm_places}
 use Rattle.usb_line.proofs.Backs.{nothing_moved}
-use Rattle.usb_line.proofs.Lookups.{each_set}
+use Rattle.usb_device.proofs.Lookups.{each_set}
 
 -- what the gate accepts is not queued
 not_busy : (b : Bool) (c : Code) → Zero ≡ cond b (Fault EBUSY) c → b ≡ false

@@ -9,13 +9,14 @@ use Rattle.usb_bind.specs.declared.bound.Bound.{Bound}
 use Rattle.usb_class.specs.declared.class_core.Core.{Core}
 use Rattle.usb_class.specs.declared.class_core.Told.{Told}
 use Rattle.usb_class.specs.Core.{IsCore}
-use Rattle.usb_class.specs.Done.{Done}
+use Rattle.usb_machine.specs.Completion.{Completion}
 use Rattle.usb_class.specs.Origin.{Origin}
 use Rattle.usb_class.specs.Told.{told_of}
 use Rattle.usb_scene.specs.declared.scene.Scene.{Scene}
 use Rattle.usb_line.specs.declared.run.EndRow.{EndRow}
 use Rattle.usb_line.specs.declared.run.EndReceived.{EndReceived}
 use Rattle.usb_line.specs.declared.run.LineRun.{LineRun}
+use Rattle.usb_line.specs.declared.line.LineOutcome.{LineOutcome}
 use Rattle.usb_prepare.specs.Ends.{ends_of}
 use Rattle.usb_prepare.specs.Below.{below}
 use Rattle.usb_prepare.specs.Prepared.{bindings_of}
@@ -53,9 +54,13 @@ ends_told s f run shows =
     (λ e x at. (let is = shows.each_end e x at in (λ j. record { shape = is.is j; received = record { count = is.acked.count j; first = is.acked.first j } })))
     ∙ ap (λ n. map (end_of s f.rounds) (below n)) shows.all_ends
 
+-- outcomes with the same parts are the same
+pub same_outcome : (o p : LineOutcome) → o.found ≡ p.found → o.board ≡ p.board → o.made ≡ p.made → o.given ≡ p.given → o.told ≡ p.told → o.ends ≡ p.ends → o ≡ p
+same_outcome o p found board made given told ends = λ i. record { found = found i; board = board i; made = made i; given = given i; told = told i; ends = ends i }
+
 -- what a core reports, whatever it has seen
 abbrev pub Tells : Core → Told → Type 0
-Tells core t = (driver : Driver) (o : Origin) (done : List Done) → IsCore driver o done core → t ≡ told_of driver o done
+Tells core t = (driver : Driver) (o : Origin) (done : List Completion) → IsCore driver o done core → t ≡ told_of driver o done
 
 pub record AreTold (cores : List Core) (told : List Told) : Type 0 where
   pub count : length told ≡ length cores

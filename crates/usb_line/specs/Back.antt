@@ -20,7 +20,7 @@ use Rattle.usb_machine.specs.Legal.{times}
 use Rattle.usb_machine.specs.Plain.{Stands, urbs_of}
 use Rattle.usb_bind.specs.declared.row.Driver.{Driver}
 use Rattle.usb_class.specs.declared.class_core.Core.{Core}
-use Rattle.usb_class.specs.Done.{Done}
+use Rattle.usb_machine.specs.Completion.{Completion}
 use Rattle.usb_class.specs.Handler.{action_of, goes_again, window_by}
 use Rattle.usb_class.specs.Origin.{Origin}
 use Rattle.usb_class.specs.Questions.{question_by, still_out}
@@ -130,7 +130,7 @@ CanNote cores (Some o) = (core : Core) × (slice_get cores o.place ≡ Some core
 
 -- a core took note of its URB that came back, whatever it had seen before, and this is what becomes of the transfer
 abbrev pub Took : Core → Owner → Code → Transfer → Action → Core → Type 0
-Took old o status t action new = (driver : Driver) (origin : Origin) (done : List Done) → IsCore driver origin done old
+Took old o status t action new = (driver : Driver) (origin : Origin) (done : List Completion) → IsCore driver origin done old
     → (action ≡ action_of driver o.role status t) × IsCore driver origin (done ++ record { role = o.role; status = status; transfer = t } ∷ []) new
     × (is_asking new ≡ still_out driver origin o.role t (is_asking old))
 
@@ -142,7 +142,7 @@ Noted old new (Some o) may status t action =
 
 -- the core of the driver gave its question, if it has one that is not out
 abbrev pub GaveQuestion : Core → Core → Option Transfer → Type 0
-GaveQuestion old new t = (driver : Driver) (origin : Origin) (done : List Done) → IsCore driver origin done old
+GaveQuestion old new t = (driver : Driver) (origin : Origin) (done : List Completion) → IsCore driver origin done old
     → (t ≡ (if is_asking old then None else question_by driver origin)) × IsCore driver origin done new
     × (is_asking new ≡ (if is_some t then true else is_asking old))
 
@@ -212,7 +212,7 @@ Handled old new u again number q o = (s : Scene) (h : List Entry) (r : Giveback)
 
 -- whatever it had seen, and its question is not out
 abbrev pub TookBack : Core → Core → Type 0
-TookBack old new = ((driver : Driver) (origin : Origin) (done : List Done) → IsCore driver origin done old → IsCore driver origin done new) × (is_asking new ≡ false)
+TookBack old new = ((driver : Driver) (origin : Origin) (done : List Completion) → IsCore driver origin done old → IsCore driver origin done new) × (is_asking new ≡ false)
 
 -- the transfer of a question that was accepted is in the row of its URB, and the core of one that was not has it back
 abbrev pub SettledBy : LineRun → LineRun → PosedQuestion → Outcome → Type 0

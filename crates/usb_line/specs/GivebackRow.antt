@@ -1,8 +1,9 @@
 -- What a run leaves of its givebacks: a row for each, and of an OUT endpoint what it acknowledged.
-use Rattle.std.specs.Prelude.{ℕ, ◌≡◌, ◌-◌, ◌^◌, min, Bool, true, false, if◌then◌else◌, List, [], take, drop, length}
+use Rattle.std.specs.Prelude.{ℕ, ◌≡◌, ◌-◌, ◌^◌, min, Bool, true, false, if◌then◌else◌, List, [], take, length}
 use Rattle.std.specs.List.{flat_map}
 use Rattle.usb_machine.specs.declared.transfer.Transfer.{Transfer}
 use Rattle.usb_machine.specs.declared.layout.Shape.{Shape}
+use Rattle.usb_machine.specs.Completion.{moved_bytes}
 use Rattle.usb_xfer.specs.Direction.{Direction, In, Out, ControlIn, ControlOut, direction_of}
 use Rattle.usb_xfer.specs.Moved.{acked_in}
 use Rattle.usb_scene.specs.declared.scene.Scene.{Scene}
@@ -11,10 +12,6 @@ use Rattle.usb_line.specs.declared.run.Received.{Received}
 use Rattle.usb_prepare.specs.Ends.{shape_at}
 use Rattle.usb_prepare.specs.Layout.{home}
 use Rattle.usb_line.specs.Run.{Giveback, moved_in, rounds_at}
-
--- the bytes that were moved: the first `actual` of the window
-abbrev pub moved_bytes : Transfer → List ℕ
-moved_bytes t = take t.actual (drop t.from t.buf)
 
 -- whether the bytes come to the host
 abbrev pub comes_in : Direction → Bool

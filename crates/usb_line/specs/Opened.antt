@@ -8,12 +8,16 @@ use Rattle.usb_class.specs.Core.{IsCore, is_asking}
 use Rattle.usb_scene.specs.declared.scene.Scene.{Scene}
 use Rattle.usb_line.specs.declared.run.UrbRow.{UrbRow}
 use Rattle.usb_line.specs.declared.run.EndRow.{EndRow}
+use Rattle.usb_line.specs.declared.prepare.OpenedRun.{OpenedRun}
+use Rattle.usb_prepare.specs.Prepared.{found_of, probes_of}
 use Rattle.usb_prepare.specs.Layout.{home}
 use Rattle.usb_types.specs.declared.urb.UrbId.{UrbId}
 use Rattle.usb_types.specs.declared.urb.Role.TheVariants.{Ctl}
 use Rattle.usb_bind.specs.Board.{urb_of_role}
 use Rattle.usb_line.specs.Prepared.{is_numbered_by, owner_of, again_of}
 use Rattle.usb_line.specs.GivebackRow.{IsReceived}
+use Rattle.usb_line.specs.Line.{at_start}
+use Rattle.usb_line.specs.Shows.{Shows}
 
 -- an endpoint where nothing waits
 pub record IsNewEnd (shape : Shape) (end : EndRow) : Type 0 where
@@ -48,3 +52,9 @@ pub record AreNewCores (rows : List UrbRow) (bindings : List Bound) (ids : List 
 -- URB u before its first submit
 abbrev pub new_urb : Scene → ℕ → UrbRow
 new_urb s u = record { home = home s u; owner = owner_of s u; again = again_of s u; transfer = None }
+
+-- the run before its first entry, and what its report says of the prepared scene
+pub record IsOpenedRun (s : Scene) (o : OpenedRun) : Type 0 where
+  pub run : Shows s at_start o.run
+  pub found : o.found ≡ found_of s
+  pub board : o.board ≡ (probes_of s).board

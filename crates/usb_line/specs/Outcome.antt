@@ -9,6 +9,7 @@ use Rattle.usb_line.specs.declared.run.EndReceived.{EndReceived}
 use Rattle.usb_line.specs.declared.line.LineOutcome.{LineOutcome}
 use Rattle.usb_prepare.specs.Ends.{ends_of, shape_at}
 use Rattle.usb_prepare.specs.Below.{below}
+use Rattle.usb_prepare.specs.Prepared.{found_of, probes_of}
 use Rattle.usb_line.specs.Run.{CallRecord, Giveback, drivers_told}
 use Rattle.usb_line.specs.GivebackRow.{giveback_row, acked_at}
 use Rattle.usb_line.specs.Line.{Progress, IsLineRun}
@@ -29,11 +30,19 @@ received_at end = record { shape = end.shape; received = end.received }
 abbrev pub end_of : Scene → List Giveback → ℕ → EndReceived
 end_of s rounds e = record { shape = shape_at s e; received = received_of (acked_at s e rounds) }
 
+-- what a run with these calls and givebacks leaves for its report
+abbrev pub outcome_of : Scene → List CallRecord → List Giveback → LineOutcome
+outcome_of s call_records rounds = record {
+  found = found_of s;
+  board = (probes_of s).board;
+  made = map made_of call_records;
+  given = map (giveback_row s) rounds;
+  told = drivers_told s rounds;
+  ends = map (end_of s rounds) (below (ends_of s));
+}
+
 -- the outcome is that of the scene's run in line order
 pub record IsOutcome (s : Scene) (o : LineOutcome) : Type 0 where
   pub far : Progress
   pub line : IsLineRun s far
-  pub made : o.made ≡ map made_of far.call_records
-  pub given : o.given ≡ map (giveback_row s) far.rounds
-  pub told : o.told ≡ drivers_told s far.rounds
-  pub ends : o.ends ≡ map (end_of s far.rounds) (below (ends_of s))
+  pub is : o ≡ outcome_of s far.call_records far.rounds

@@ -25,7 +25,7 @@ use Rattle.usb_machine.specs.Calls.{entry, plain_entry, submit_entries, unlink_e
 use Rattle.usb_xfer.specs.Replies.{Reply, Question}
 use Rattle.usb_xfer.specs.declared.packet.Step.TheVariants.{Ended}
 use Rattle.usb_xfer.specs.Moved.{moved, moved_state, IsWhole, question_of}
-use Rattle.usb_class.specs.Done.{Done}
+use Rattle.usb_machine.specs.Completion.{Completion}
 use Rattle.usb_class.specs.Handler.{action_of, window_by}
 use Rattle.usb_class.specs.Questions.{is_answer}
 use Rattle.usb_class.specs.Told.{told_of}
@@ -249,11 +249,11 @@ AreHandled s before [] = Unit {0}
 AreHandled s before (r ∷ rounds) = IsHandled (acts s before r.urb r.status (moved_in s r)) r.outcome × AreHandled s (before ++ r ∷ []) rounds
 
 -- what the driver of the binding at this place heard of a giveback, and of all in their order
-abbrev pub done_in : Scene → ℕ → Giveback → Option Done
+abbrev pub done_in : Scene → ℕ → Giveback → Option Completion
 done_in s k r =
     option_and_then (λ (o : Owner). if o.place == k then Some (record { role = o.role; status = r.status; transfer = moved_in s r }) else None) (owner_of s r.urb)
 
-abbrev pub done_at : Scene → ℕ → List Giveback → List Done
+abbrev pub done_at : Scene → ℕ → List Giveback → List Completion
 done_at s k rounds = filter_map (done_in s k) rounds
 
 -- what the drivers of these bindings report, of which the first has this place

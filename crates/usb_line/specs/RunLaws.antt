@@ -11,6 +11,7 @@ use Rattle.usb_machine.specs.declared.event.Event.{Event}
 use Rattle.usb_machine.specs.declared.event.Event.TheVariants.{Mark, Finish}
 use Rattle.usb_machine.specs.declared.event.Answer.TheVariants.{Code as Status}
 use Rattle.usb_machine.specs.declared.transfer.Transfer.{Transfer}
+use Rattle.usb_machine.specs.Completion.{Completion}
 use Rattle.usb_machine.specs.declared.entry.Entry.{Entry}
 use Rattle.usb_machine.specs.History.{episodes_of}
 use Rattle.usb_machine.specs.Laws.{HasEpisode}
@@ -21,10 +22,7 @@ use Rattle.usb_xfer.specs.Output.{acks}
 use Rattle.usb_xfer.specs.Control.{window_of}
 use Rattle.usb_xfer.specs.Moved.{moved, moved_state, question_of}
 use Rattle.usb_bind.specs.declared.row.Driver.TheVariants.{Printer}
-use Rattle.usb_printer.specs.Jobs.{Completion, completion}
 use Rattle.usb_printer.specs.Whole.{IsWindow, IsMovedOn, action_behind, IsJob, begins_at}
-use Rattle.usb_class.specs.Done.{Done}
-use Rattle.usb_class.specs.Told.{printer_heard}
 use Rattle.usb_scene.specs.declared.scene.Scene.{Scene}
 use Rattle.usb_prepare.specs.Ends.{shape_at}
 use Rattle.usb_prepare.specs.Layout.{home}
@@ -77,7 +75,7 @@ acked_window shape r = take (shape.max * acks r.replies) (window_of r.sent)
 
 -- the completion that a printer's driver has of a giveback of its URB for writes
 abbrev pub write_of : Scene → Giveback → Completion
-write_of s r = completion Write r.status (moved_in s r)
+write_of s r = record { role = Write; status = r.status; transfer = moved_in s r }
 
 abbrev pub writes_of : Scene → List Giveback → List Completion
 writes_of s job = map (write_of s) job
@@ -89,7 +87,7 @@ is_write role = false
 
 -- what the printer's driver of the binding at this place hears of its writes
 abbrev pub writes_heard : Scene → ℕ → List Giveback → List Completion
-writes_heard s k rounds = map printer_heard (filter (λ (d : Done). is_write d.role) (done_at s k rounds))
+writes_heard s k rounds = filter (λ (c : Completion). is_write c.role) (done_at s k rounds)
 
 -- the driver asked for one more window, and the gate refused it
 abbrev pub IsRefused : Action → Outcome → Type 0
@@ -103,8 +101,8 @@ IsCutOff s (r ∷ []) = IsWindow (write_of s r) × IsRefused (action_behind (wri
 IsCutOff s (r ∷ next ∷ more) = IsWindow (write_of s r) × IsMovedOn (action_behind (write_of s r)) (moved_in s r) (moved_in s next) × IsCutOff s (next ∷ more)
 
 -- a job: its first window begins at the first byte, and it came to its end or was cut off
-abbrev pub IsPrinted : Scene → List Giveback → Type 0
-IsPrinted s job = (begins_at (writes_of s job) ≡ 0) × (IsJob (writes_of s job) ⊎ IsCutOff s job)
+abbrev pub IsJobInRun : Scene → List Giveback → Type 0
+IsJobInRun s job = (begins_at (writes_of s job) ≡ 0) × (IsJob (writes_of s job) ⊎ IsCutOff s job)
 
 -- a printer's driver has this URB for its writes, and the endpoint takes packets
 pub record IsForWrites (s : Scene) (u : ℕ) : Type 0 where

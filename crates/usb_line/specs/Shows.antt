@@ -3,6 +3,7 @@ use Rattle.std.specs.Prelude.{ℕ, ◌≡◌, ◌+◌, ◌-◌, ◌<◌, ◌^◌
 use Rattle.std.specs.Option.{option_map_or}
 use Rattle.usb_machine.specs.declared.transfer.Transfer.{Transfer}
 use Rattle.usb_machine.specs.declared.entry.Entry.{Entry}
+use Rattle.usb_machine.specs.Completion.{after_window}
 use Rattle.usb_machine.specs.declared.plain.Plain.{Plain}
 use Rattle.usb_machine.specs.History.{state_of, pending_of, sent_of}
 use Rattle.usb_machine.specs.Plain.{Stands}
@@ -134,13 +135,9 @@ pub record IsStood (plain : Plain) : Type 0 where
 abbrev pub rank : Option Owner → ℕ
 rank o = option_map_or (λ (o : Owner). if is_ctl o.role then 1 else 2) o 2
 
--- how many bytes of the buffer stand after the window
-abbrev pub behind : Transfer → ℕ
-behind t = length t.buf - (t.from + t.len)
-
 abbrev pub held : Option Owner → Option Transfer → ℕ
 held o None = 0
-held o (Some t) = rank o + behind t
+held o (Some t) = rank o + after_window t
 
 -- at most so many turns give something back: what a driver reads again has used an item, and a job goes on after its window
 abbrev pub turns_left : LineRun → ℕ

@@ -2,10 +2,8 @@
 ghost use Rattle.std.specs.Prelude.{◌≡◌, [], map, length, List, IfOk};
 ghost use Rattle.usb_scene.specs.declared.scene.Scene.{Scene};
 ghost use Rattle.usb_scene.specs.WellFormed.{IsWellFormed};
-ghost use Rattle.usb_prepare.specs.Bindings.{HaveHeard};
-ghost use Rattle.usb_prepare.specs.Prepared.{bindings_of, probes_of, ids_of};
-ghost use Rattle.usb_prepare.specs.Layout.{layout_of};
-ghost use Rattle.usb_prepare.specs.Ready.{AreReady};
+ghost use Rattle.usb_prepare.specs.Prepared.{bindings_of};
+ghost use Rattle.usb_prepare.specs.Ready.{IsPrepared};
 ghost use Rattle.usb_line.specs.Prepared.{calls_of};
 ghost use Rattle.usb_line.specs.Run.{Giveback, drivers_told};
 ghost use Rattle.usb_line.specs.Shows.{ShowsCores};
@@ -13,20 +11,23 @@ ghost use Rattle.usb_line.specs.Calls.{IsUnderway};
 ghost use Rattle.usb_line.specs.Outcome.{received_at, IsOutcome};
 
 use crate::made::{CallMade, GivebackRow};
-use crate::prepare::opening;
+use crate::prepare::{OpenedRun, opening};
 use crate::run::{EndReceived, EndRow, LineRun};
 use crate::thread::main_pass_of;
 use std::alloc::Global;
 use usb_bind::{Board, Bound};
 use usb_class::{Core, Told};
-use usb_device::Scripted;
-use usb_machine::Layout;
+use usb_prepare::{Found, Prepared};
 use usb_scene::Scene;
-use usb_types::{Buf, List, Memory};
+use usb_types::{List, Memory};
 
 /// What a run leaves for its report.
 #[derive(Drop)]
 pub struct LineOutcome {
+    /// What each device is found to be.
+    pub found: List<Found>,
+    /// Which driver has which interface.
+    pub board: Board,
     pub made: List<CallMade>,
     pub given: List<GivebackRow>,
     /// Of each binding, by its place, what its driver reports.
@@ -80,29 +81,24 @@ fn make_calls(
 }
 
 /// Makes the calls of a prepared scene one after another, and closes.
-pub fn run_line(
-    alloc: Global,
-    scene: &Scene,
-    devices: Vec<Scripted<'_>>,
-    board: &Board,
-    ids: &[Buf],
-    layout: &Layout,
-) -> Result<LineOutcome, Memory>
+pub fn run_line(alloc: Global, scene: &Scene, prepared: Prepared<'_>) -> Result<LineOutcome, Memory>
     requires good { IsWellFormed scene.now }
-    requires devices { AreReady scene.now.devices devices.items }
-    requires heard { HaveHeard scene.now.devices (probes_of scene.now).heard devices.items }
-    requires bound { board.now ≡ (probes_of scene.now).board }
-    requires ids { ids.now ≡ ids_of scene.now }
-    requires layout { layout.now ≡ layout_of scene.now }
+    requires prepared { IsPrepared scene.now prepared }
     ensures { IfOk result (IsOutcome scene.now) }
 {
     let main = main_pass_of(scene);
-    let mut run = opening(alloc, scene, devices, board, ids, layout)?;
+    let OpenedRun {
+        mut run,
+        found,
+        board,
+    } = opening(alloc, scene, prepared)?;
     run.submit_reads(alloc, main)?;
     let mut made = List::of(Vec::new(alloc));
     make_calls(alloc, scene, board.bindings(), &mut run, &mut made)?;
     run.close(alloc, main)?;
     Ok(LineOutcome {
+        found,
+        board,
         made,
         given: run.given,
         told: told(alloc, run.cores)?,

@@ -2,14 +2,11 @@
 ghost use Rattle.std.specs.Prelude.{◌≡◌, ◌<◌, ◌^◌, [], map, length, slice_get, option_copied, None, IfOk};
 ghost use Rattle.usb_scene.specs.WellFormed.{IsWellFormed};
 ghost use Rattle.usb_prepare.specs.Below.{below};
-ghost use Rattle.usb_prepare.specs.Prepared.{probes_of, ids_of};
-ghost use Rattle.usb_prepare.specs.Bindings.{HaveHeard};
-ghost use Rattle.usb_prepare.specs.Ready.{AreReady};
-ghost use Rattle.usb_prepare.specs.Layout.{homes_of, layout_of, urb_count};
+ghost use Rattle.usb_prepare.specs.Prepared.{probes_of};
+ghost use Rattle.usb_prepare.specs.Ready.{IsPrepared};
+ghost use Rattle.usb_prepare.specs.Layout.{homes_of, urb_count};
 ghost use Rattle.usb_line.specs.Prepared.{machine_of, again_in};
-ghost use Rattle.usb_line.specs.Opened.{IsNewEnd, AreNewEnds, number_in_rows, origin_in, IsNewCore, AreNewCores, new_urb};
-ghost use Rattle.usb_line.specs.Line.{at_start};
-ghost use Rattle.usb_line.specs.Shows.{Shows};
+ghost use Rattle.usb_line.specs.Opened.{IsNewEnd, AreNewEnds, number_in_rows, origin_in, IsNewCore, AreNewCores, IsOpenedRun, new_urb};
 ghost use Rattle.usb_machine.specs.History.{or_zero};
 ghost use Rattle.usb_machine.specs.Plain.{Stands};
 
@@ -19,8 +16,8 @@ use crate::run::{EndRow, LineRun, Received, UrbRow};
 use std::alloc::{AllocError, Global};
 use usb_bind::{Board, Bound};
 use usb_class::Core;
-use usb_device::Scripted;
-use usb_machine::{Layout, Plain, Shape};
+use usb_machine::{Plain, Shape};
+use usb_prepare::{Found, Prepared};
 use usb_scene::{Scene, SceneUrb};
 use usb_types::{Buf, List, Memory, Role, UrbId};
 
@@ -140,33 +137,41 @@ fn new_cores(
     Ok(cores)
 }
 
+/// The run before its first entry, and what its report says of the prepared scene.
+#[derive(Drop)]
+pub struct OpenedRun<'a> {
+    pub run: LineRun<'a>,
+    pub found: List<Found>,
+    pub board: Board,
+}
+
 // The run of this machine before its first entry.
 fn started<'a>(
     alloc: Global,
     scene: &Scene,
-    devices: Vec<Scripted<'a>>,
-    board: &Board,
-    ids: &[Buf],
-    layout: &Layout,
+    prepared: Prepared<'a>,
     plain: Plain,
-) -> Result<LineRun<'a>, Memory>
+) -> Result<OpenedRun<'a>, Memory>
     requires good { IsWellFormed scene.now }
-    requires ready { AreReady scene.now.devices devices.items }
-    requires heard { HaveHeard scene.now.devices (probes_of scene.now).heard devices.items }
-    requires bound { board.now ≡ (probes_of scene.now).board }
-    requires ids { ids.now ≡ ids_of scene.now }
-    requires layout { layout.now ≡ layout_of scene.now }
+    requires prepared { IsPrepared scene.now prepared }
     requires stands { Stands plain (machine_of scene.now) [] }
-    ensures { IfOk result (λ run. Shows scene.now at_start run) }
+    ensures { IfOk result (IsOpenedRun scene.now) }
 {
+    let Prepared {
+        devices,
+        found,
+        board,
+        ids,
+        layout,
+    } = prepared;
     let Ok(ends) = end_rows(alloc, layout.shapes.items()) else {
         return Err(Memory);
     };
-    let Ok(urbs) = urb_rows(alloc, scene, board, layout.homes.items()) else {
+    let Ok(urbs) = urb_rows(alloc, scene, &board, layout.homes.items()) else {
         return Err(Memory);
     };
-    let cores = new_cores(alloc, &urbs, board.bindings(), ids)?;
-    Ok(LineRun {
+    let cores = new_cores(alloc, &urbs, board.bindings(), ids.items())?;
+    let run = LineRun {
         plain,
         devices,
         ends,
@@ -174,27 +179,21 @@ fn started<'a>(
         cores,
         given: List::of(Vec::new(alloc)),
         down: false,
-    })
+    };
+    Ok(OpenedRun { run, found, board })
 }
 
-/// The run before its first entry.
+/// The run of a prepared scene before its first entry.
 pub fn opening<'a>(
     alloc: Global,
     scene: &Scene,
-    devices: Vec<Scripted<'a>>,
-    board: &Board,
-    ids: &[Buf],
-    layout: &Layout,
-) -> Result<LineRun<'a>, Memory>
+    prepared: Prepared<'a>,
+) -> Result<OpenedRun<'a>, Memory>
     requires good { IsWellFormed scene.now }
-    requires ready { AreReady scene.now.devices devices.items }
-    requires heard { HaveHeard scene.now.devices (probes_of scene.now).heard devices.items }
-    requires bound { board.now ≡ (probes_of scene.now).board }
-    requires ids { ids.now ≡ ids_of scene.now }
-    requires layout { layout.now ≡ layout_of scene.now }
-    ensures { IfOk result (λ run. Shows scene.now at_start run) }
+    requires prepared { IsPrepared scene.now prepared }
+    ensures { IfOk result (IsOpenedRun scene.now) }
 {
     let passes = scene.threads.items().len() as u32 + 3;
-    let plain = Plain::new(alloc, layout, passes)?;
-    started(alloc, scene, devices, board, ids, layout, plain)
+    let plain = Plain::new(alloc, &prepared.layout, passes)?;
+    started(alloc, scene, prepared, plain)
 }

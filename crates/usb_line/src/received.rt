@@ -2,7 +2,7 @@
 ghost use Rattle.std.specs.Prelude.{◌≡◌, not, ◌&&◌, IfOk, OnOk};
 ghost use Rattle.usb_machine.specs.Shapes.{HasWindow};
 ghost use Rattle.usb_xfer.specs.Direction.{goes_in, setup_in, is_control, direction_of};
-ghost use Rattle.usb_line.specs.GivebackRow.{moved_bytes, comes_in, brought_bytes, sent_bytes};
+ghost use Rattle.usb_line.specs.GivebackRow.{comes_in, brought_bytes, sent_bytes};
 ghost use Rattle.usb_line.specs.Back.{left_by, Adds};
 
 use crate::made::Outcome;
@@ -12,15 +12,6 @@ use usb_class::with_window;
 use usb_machine::{EndKind, Shape, Transfer};
 use usb_types::{Action, Buf, Code, Memory};
 use usb_xfer::is_in;
-
-// The bytes that were moved.
-fn moved(t: &Transfer) -> &[u8]
-    requires { HasWindow t.now }
-    ensures { result.now ≡ moved_bytes t.now }
-{
-    let from = t.from as usize;
-    &t.buf.bytes()[from..from + t.actual as usize]
-}
 
 // Whether a setup packet asks for data to the host.
 fn asks_in(setup: &Option<[u8; 8]>) -> bool
@@ -58,7 +49,7 @@ fn sent<'a>(shape: &Shape, t: &'a Transfer) -> &'a [u8]
     requires { HasWindow t.now }
     ensures { result.now ≡ sent_bytes shape.now t.now }
 {
-    if takes_packets(shape) { moved(t) } else { &[] }
+    if takes_packets(shape) { t.moved() } else { &[] }
 }
 
 /// The bytes that a transfer to the host brings. Where there are none, no memory is taken.
@@ -70,7 +61,7 @@ pub fn brought(alloc: Global, shape: &Shape, t: &Transfer) -> Result<Buf, Memory
     if !comes_in(shape, t) {
         return Ok(bytes);
     }
-    bytes.append(moved(t))?;
+    bytes.append(t.moved())?;
     Ok(bytes)
 }
 

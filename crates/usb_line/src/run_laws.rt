@@ -16,7 +16,7 @@ ghost use Rattle.usb_line.specs.Prepared.{owner_of, script_of};
 ghost use Rattle.usb_line.specs.Due.{is_ruled};
 ghost use Rattle.usb_line.specs.Run.{CallRecord, Giveback, IsRun, times_back, moved_in, resent, rounds_at, replies_in};
 ghost use Rattle.usb_line.specs.GivebackRow.{acked_at};
-ghost use Rattle.usb_line.specs.RunLaws.{IsGivenBack, first_ending, HasStatusBy, acked_packets, takes_packets, acked_window, IsPrinted, IsForWrites, writes_of, writes_heard};
+ghost use Rattle.usb_line.specs.RunLaws.{IsGivenBack, first_ending, HasStatusBy, acked_packets, takes_packets, acked_window, IsJobInRun, IsForWrites, writes_of, writes_heard};
 
 /// An URB is given back as often as a submit of it was accepted.
 pub fn each_accepted_urb_is_given_back_once()
@@ -44,11 +44,16 @@ pub fn an_endpoint_received_what_it_acknowledged()
 {}
 
 /// A transfer that a handler submitted again, where the gate accepted it, is the next that comes back with its URB: for a driver's
-/// URB, the transfer as it was moved, with the window that the driver asked for.
+/// URB, the transfer as it was moved, with the window that the driver asked for. It comes back under the same number, and with
+/// that window.
 pub fn a_transfer_that_goes_again_comes_back_next()
-    ensures { (s : Scene) (h : List Entry) (call_records : List CallRecord) (rounds : List Giveback) → IsRun s h call_records rounds
+    ensures sent { (s : Scene) (h : List Entry) (call_records : List CallRecord) (rounds : List Giveback) → IsRun s h call_records rounds
         → (before : List Giveback) (r : Giveback) (middle : List Giveback) (next : Giveback) (after : List Giveback) → rounds ≡ before ++ r ∷ (middle ++ next ∷ after)
         → r.outcome ≡ Again Zero → next.urb ≡ r.urb → times_back r.urb middle ≡ 0 → next.sent ≡ resent s r }
+    ensures brought { (s : Scene) (h : List Entry) (call_records : List CallRecord) (rounds : List Giveback) → IsRun s h call_records rounds
+        → (before : List Giveback) (r : Giveback) (middle : List Giveback) (next : Giveback) (after : List Giveback) → rounds ≡ before ++ r ∷ (middle ++ next ∷ after)
+        → r.outcome ≡ Again Zero → next.urb ≡ r.urb → times_back r.urb middle ≡ 0
+        → ((moved_in s next).number ≡ r.sent.number) × ((moved_in s next).from ≡ (resent s r).from) × ((moved_in s next).len ≡ (resent s r).len) }
 {}
 
 /// Where a handler's submit of a driver's OUT transfer was accepted, the transfer that comes back next with the URB has the same
@@ -69,5 +74,5 @@ pub fn a_printers_windows_are_jobs()
         → (u : ℕ) (writer : IsForWrites s u) → writes_heard s writer.owner.place rounds ≡ writes_of s (filter (λ r. r.urb == u) rounds) }
     ensures jobs { (s : Scene) (h : List Entry) (call_records : List CallRecord) (rounds : List Giveback) → IsRun s h call_records rounds
         → (u : ℕ) → IsForWrites s u
-        → (jobs : List (List Giveback)) × (filter (λ r. r.urb == u) rounds ≡ flat_map (λ job. job) jobs) × (All (IsPrinted s) jobs) }
+        → (jobs : List (List Giveback)) × (filter (λ r. r.urb == u) rounds ≡ flat_map (λ job. job) jobs) × (All (IsJobInRun s) jobs) }
 {}

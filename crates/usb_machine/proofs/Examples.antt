@@ -1,10 +1,12 @@
 -- Worked cases of the definitions, computed by the checker.
 use Rattle.std.proofs.Common.{◌≡◌, ℕ, Bool, true, false, [], ◌∷◌, refl, Some, None}
-use Rattle.usb_types.specs.declared.errno.Errno.TheVariants.{EBUSY, ENODEV, EPERM, ENOENT, ESHUTDOWN, EIDRM, EINPROGRESS, ECONNRESET, EPIPE, ENOEXEC, EBADR, EMSGSIZE, EINVAL}
+use Rattle.usb_types.specs.declared.errno.Errno.TheVariants.{EBUSY, ENODEV, EPERM, ENOENT, ESHUTDOWN, EIDRM, EINPROGRESS, ECONNRESET, EPIPE, EPROTO, EOVERFLOW, ENOEXEC, EBADR, EMSGSIZE, EINVAL}
 use Rattle.usb_types.specs.declared.errno.Code.TheVariants.{Zero, Fault}
 use Rattle.usb_types.specs.declared.urb.UrbId.{UrbId}
 use Rattle.usb_types.specs.declared.urb.Why.TheVariants.{Unlink, Kill, Shutdown}
 use Rattle.usb_types.specs.declared.urb.Flag.TheVariants.{Off}
+use Rattle.usb_types.specs.declared.urb.Role.TheVariants.{In}
+use Rattle.usb_types.specs.declared.urb.Action.TheVariants.{Rest as Rests, Again}
 use Rattle.usb_machine.specs.declared.event.Event.TheVariants.{Submit, Link, Take, Mark, Finish, Give, Rest, End, Reject, Withdraw, Quiet, Claim, Flag, Unflag}
 use Rattle.usb_machine.specs.declared.event.Answer.TheVariants.{Nothing, Code as Status, Truth, Urb, Number}
 use Rattle.usb_machine.specs.declared.state.Mark.TheVariants.{Unlinked, Finished}
@@ -14,6 +16,7 @@ use Rattle.usb_machine.specs.declared.layout.Shape.{Shape}
 use Rattle.usb_machine.specs.declared.transfer.Transfer.{Transfer}
 use Rattle.usb_machine.specs.State.{opening, answer_of, after}
 use Rattle.usb_machine.specs.Shapes.{shape_fault}
+use Rattle.usb_machine.specs.Completion.{Completion, moved_bytes, after_window, read_again}
 
 -- Each event at a state of its URB: what it answers, and what it changes.
 
@@ -177,3 +180,20 @@ interrupt_taken = refl
 
 isochronous : shape_fault (record bulk_in { kind = Iso; interval = 1 }) (eight 1) ≡ Some EINVAL
 isochronous = refl
+
+-- What a completion handler sees: a read came back with two bytes of the four that its window has, from the second byte on.
+
+abbrev moved_two : Completion
+moved_two = record {
+  role = In;
+  status = Zero;
+  transfer = record { setup = None; buf = 9 ∷ 8 ∷ 7 ∷ 6 ∷ 5 ∷ 4 ∷ []; from = 1; len = 4; short_not_ok = false; actual = 2; number = 1 };
+}
+
+two_were_moved : (moved_bytes moved_two.transfer ≡ 8 ∷ 7 ∷ []) × (after_window moved_two.transfer ≡ 1)
+two_were_moved = (refl, refl)
+
+what_reads_go_on : (read_again Zero moved_two.transfer ≡ Again 0 6) × (read_again (Fault EPROTO) moved_two.transfer ≡ Again 0 6)
+    × (read_again (Fault EOVERFLOW) moved_two.transfer ≡ Again 0 6) × (read_again (Fault ENOENT) moved_two.transfer ≡ Rests)
+    × (read_again (Fault EPIPE) moved_two.transfer ≡ Rests)
+what_reads_go_on = (refl, refl, refl, refl, refl)

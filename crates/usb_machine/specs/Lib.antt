@@ -1,5 +1,6 @@
 pub mod State
 pub mod Shapes
+pub mod Completion
 pub mod History
 pub mod Parts
 pub mod Legal

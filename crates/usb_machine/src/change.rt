@@ -1,11 +1,11 @@
 //! What an event answers by the state of its URB, and what it changes there.
-ghost use Rattle.std.specs.Prelude.{◌≡◌, ◌↔◌, IsTrue, false, [], not};
-ghost use Rattle.usb_machine.specs.State.{is_clear, after, answer_of, refusal, unlinking, status_of, has_flag as flag_of, with_flag as flags_with};
+ghost use Rattle.std.specs.Prelude.{◌≡◌, ◌↔◌, if◌then◌else◌, IsTrue, true, false, [], not};
+ghost use Rattle.usb_machine.specs.State.{is_clear, accepted, unlinks, finishes, after, answer_of, refusal, unlinking, status_of, has_flag as flag_of, with_flag as flags_with};
 ghost use Rattle.usb_machine.specs.Plain.{IsOfUrb, CanCount};
 
 use crate::event::{Answer, Event};
 use crate::state::{Flags, Mark, UrbState};
-use usb_types::{Code, Errno, Flag};
+use usb_types::{Code, Errno, Flag, Why};
 
 fn refused(state: &UrbState) -> Code
     ensures { result ≡ refusal state.now }
@@ -102,40 +102,70 @@ pub(crate) fn has_flag(flag: Flag, flags: Flags) -> bool
     }
 }
 
+// After a submit with this answer.
+fn submitted(answer: Answer, state: UrbState) -> UrbState
+    ensures { result ≡ (if accepted answer then record state { queued = true; mark = Mark.Clear } else state) }
+{
+    match answer {
+        Answer::Code(Code::Zero) => UrbState {
+            queued: true,
+            mark: Mark::Clear,
+            ..state
+        },
+        _ => state,
+    }
+}
+
+// After an unlink with this answer.
+fn marked(why: Why, answer: Answer, state: UrbState) -> UrbState
+    ensures { result ≡ (if unlinks answer then record state { mark = Mark.Unlinked why } else state) }
+{
+    match answer {
+        Answer::Code(Code::Fault(Errno::EINPROGRESS)) => UrbState {
+            mark: Mark::Unlinked(why),
+            ..state
+        },
+        _ => state,
+    }
+}
+
+// After its transfer ended, where that was answered so.
+fn finished(code: Code, answer: Answer, state: UrbState) -> UrbState
+    ensures { result ≡ (if finishes answer then record state { mark = Mark.Finished code } else state) }
+{
+    match answer {
+        Answer::Truth(true) => UrbState {
+            mark: Mark::Finished(code),
+            ..state
+        },
+        _ => state,
+    }
+}
+
+fn flagged(flag: Flag, stands: bool, state: UrbState) -> UrbState
+    ensures { result ≡ record state { flags = flags_with flag stands state.flags } }
+{
+    UrbState {
+        flags: with_flag(flag, stands, state.flags),
+        ..state
+    }
+}
+
 /// The state of an URB after an event of it with its answer. A count that is full stays.
 pub(crate) fn changed(event: Event, answer: Answer, state: UrbState) -> UrbState
     ensures { CanCount event state → result ≡ after event answer state }
 {
     match event {
-        Event::Submit { .. } => match answer {
-            Answer::Code(Code::Zero) => UrbState {
-                queued: true,
-                mark: Mark::Clear,
-                ..state
-            },
-            _ => state,
-        },
-        Event::Link { .. } | Event::Take { .. } | Event::Quiet { .. } => state,
-        Event::Mark { why, .. } => match answer {
-            Answer::Code(Code::Fault(Errno::EINPROGRESS)) => UrbState {
-                mark: Mark::Unlinked(why),
-                ..state
-            },
-            _ => state,
-        },
-        Event::Finish { code, .. } => match answer {
-            Answer::Truth(true) => UrbState {
-                mark: Mark::Finished(code),
-                ..state
-            },
-            _ => state,
-        },
+        Event::Submit { .. } => submitted(answer, state),
+        Event::Mark { why, .. } => marked(why, answer, state),
+        Event::Finish { code, .. } => finished(code, answer, state),
         Event::Give { .. } => UrbState {
             queued: false,
             mark: Mark::Clear,
             handlers: state.handlers.saturating_add(1),
             ..state
         },
+        Event::Link { .. } | Event::Take { .. } | Event::Quiet { .. } => state,
         Event::Rest { number, .. } => UrbState {
             rest: Some(number),
             ..state
@@ -156,13 +186,7 @@ pub(crate) fn changed(event: Event, answer: Answer, state: UrbState) -> UrbState
             rest: None,
             ..state
         },
-        Event::Flag { flag, .. } => UrbState {
-            flags: with_flag(flag, true, state.flags),
-            ..state
-        },
-        Event::Unflag { flag, .. } => UrbState {
-            flags: with_flag(flag, false, state.flags),
-            ..state
-        },
+        Event::Flag { flag, .. } => flagged(flag, true, state),
+        Event::Unflag { flag, .. } => flagged(flag, false, state),
     }
 }

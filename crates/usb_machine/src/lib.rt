@@ -2,6 +2,7 @@
 #![tactic(auto)]
 
 mod change;
+mod completion;
 mod entry;
 mod event;
 mod fault;
@@ -20,6 +21,7 @@ pub use event::{Answer, Event};
 pub use fault::shape_fault;
 pub use layout::{EndKind, Layout, Shape};
 pub use plain::Plain;
+pub use queues::room_of_each;
 pub use replays::{Step, replay};
 pub use state::{Flags, Mark, UrbState};
 pub use transfer::Transfer;

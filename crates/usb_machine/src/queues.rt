@@ -95,6 +95,20 @@ fn rooms(alloc: Global, homes: &[Option<u32>], ends: usize) -> Result<Vec<usize>
     Ok(rooms)
 }
 
+/// How many URBs have each endpoint as their home.
+pub fn room_of_each(
+    alloc: Global,
+    homes: &[Option<u32>],
+    ends: usize,
+) -> Result<Vec<usize>, AllocError>
+    requires homes { All (HomeIsBelow ends) homes.now }
+    requires count { length homes.now < 2 ^ 31 }
+    ensures ends { IfOk result (λ v. length v.items ≡ ends) }
+    ensures rooms { IfOk result (λ v. (e : ℕ) → e < ends → slice_get v.items e ≡ Some (homed_at homes.now e)) }
+{
+    rooms(alloc, homes, ends)
+}
+
 fn all_empty(alloc: Global, rooms: &[usize]) -> Result<Vec<Queues>, AllocError>
     ensures { IfOk result (λ v. v.items ≡ map no_urbs rooms.now) }
 {

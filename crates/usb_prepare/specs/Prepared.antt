@@ -1,4 +1,5 @@
 -- What preparing a scene gives: what each device is found to be, what it heard, the bindings, and the home of each URB.
+use Rattle.usb_types.specs.Limits.{most_urbs}
 use Rattle.std.specs.Prelude.{ℕ, zero, suc, ◌+◌, if◌then◌else◌, List, [], ◌∷◌, ◌++◌, fold, map, replicate, Option, Some, None, Result, Ok, Err}
 use Rattle.usb_machine.specs.History.{or_zero}
 use Rattle.usb_desc.specs.declared.tree.Alt.{Alt}
@@ -80,9 +81,9 @@ attached_from d (device ∷ devices) = attached_as d device ∷ attached_from (d
 abbrev pub board_of : Scene → BoardValue
 board_of s = record { devices = attached_from 0 s.devices; firsts = firsts_of s; bindings = [] }
 
--- a host has 256 URBs, and those of the scene take the first numbers
+-- a host has `most_urbs` URBs, and those of the scene take the first numbers
 abbrev pub pool_of : Scene → Homes
-pool_of s = fold taken_from (replicate 256 None) (map (λ u. or_zero (home_at s u)) s.urbs)
+pool_of s = fold taken_from (replicate most_urbs None) (map (λ u. or_zero (home_at s u)) s.urbs)
 
 -- all interfaces of all devices are probed
 unfoldable pub probes_of : Scene → Probes

@@ -79,7 +79,11 @@ fn begin<'a>(
 }
 
 /// Makes all devices of a scene.
-pub fn begin_all<'a>(alloc: Global, scene: &'a Scene, room: &mut [u8]) -> Result<EnumeratedDevices<'a>, Memory>
+pub fn begin_all<'a>(
+    alloc: Global,
+    scene: &'a Scene,
+    room: &mut [u8],
+) -> Result<EnumeratedDevices<'a>, Memory>
     requires good { IsWellFormed scene.now }
     requires room { 65535 ≤ length room.old }
     ensures size { length room.new ≡ length room.old }

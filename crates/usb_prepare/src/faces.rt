@@ -6,7 +6,7 @@ ghost use Rattle.usb_bind.specs.Board.{attached_at};
 ghost use Rattle.usb_prepare.specs.Prepared.{taken_by, face_of, faces_of, found_attached};
 ghost use Rattle.usb_prepare.specs.Bindings.{found_by};
 
-use crate::found::{InterfaceFound, Found, Probe, Taken};
+use crate::found::{Found, InterfaceFound, Probe, Taken};
 use std::alloc::Global;
 use usb_bind::{Board, Driver, ProbeFault, interface_at, interfaces};
 use usb_ctrl::{Attached, EnumFault};

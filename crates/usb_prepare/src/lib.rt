@@ -12,6 +12,6 @@ mod prepared;
 mod preparing;
 mod probing;
 
-pub use found::{InterfaceFound, Found, Probe, Taken};
+pub use found::{Found, InterfaceFound, Probe, Taken};
 pub use prepared::Prepared;
 pub use preparing::prepare;

@@ -18,13 +18,11 @@ use usb_ctrl::{Attached, EnumFault};
 use usb_device::Scripted;
 use usb_machine::Shape;
 use usb_scene::Scene;
+use usb_types::limits::MOST_URBS;
 use usb_types::{List, Memory};
 
 // The most bytes of a reply: a control transfer says how many in two bytes (USB 2.0 §9.3.5).
 const ROOM: usize = 65535;
-
-// How many URBs a host has.
-const URBS: u32 = 256;
 
 fn room(alloc: Global) -> Result<Vec<u8>, Memory>
     ensures { IfOk result (λ room. length room.items ≡ 65535) }
@@ -49,7 +47,7 @@ fn open(alloc: Global, scene: &Scene, attached: List<Option<Attached>>) -> Resul
     ensures { IfOk result (IsOpened scene.now) }
 {
     let ends = number_ends(alloc, scene, attached.items())?;
-    let mut pool = UrbPool::new(alloc, URBS)?;
+    let mut pool = UrbPool::new(alloc, MOST_URBS as u32)?;
     take_own(&mut pool, scene, &ends);
     let board = Board::new(alloc, attached, ends.firsts)?;
     Ok(Opened {

@@ -109,15 +109,6 @@ fn ask_each(
     }
 }
 
-// A copy of bytes.
-fn copy(alloc: Global, bytes: &[u8]) -> Result<Buf, Memory>
-    ensures { IfOk result (λ copy. copy ≡ bytes.now) }
-{
-    let mut copy = Buf::of(Vec::new(alloc));
-    copy.append(bytes)?;
-    Ok(copy)
-}
-
 /// The bindings of a host, with the id that each was given, and its URBs.
 #[derive(Drop)]
 pub struct Bindings {
@@ -146,7 +137,7 @@ impl Bindings {
         {
             Ok(bound) => match ask_each(device, bound.driver, interface, room) {
                 Some(count) => {
-                    self.ids.push(copy(alloc, &room[..count])?)?;
+                    self.ids.push(Buf::copy(alloc, &room[..count])?)?;
                     Ok(Probe::Bound)
                 }
                 None => {

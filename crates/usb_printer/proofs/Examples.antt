@@ -9,7 +9,8 @@ use Rattle.usb_types.specs.declared.urb.Action.TheVariants.{Rest, Again, Ask}
 use Rattle.usb_machine.specs.declared.transfer.Transfer.{Transfer}
 use Rattle.usb_ctrl.specs.Setup.{bytes_of}
 use Rattle.usb_printer.specs.declared.event.Event.TheVariants.{Id, Job, Port}
-use Rattle.usb_printer.specs.Jobs.{Completion, completion, print_events, action_of, first_window}
+use Rattle.usb_machine.specs.Completion.{Completion}
+use Rattle.usb_printer.specs.Jobs.{print_events, action_of, first_window}
 use Rattle.usb_printer.specs.Requests.{get_port_status, soft_reset, status_packet, question_of}
 
 -- MFG:A; and its length
@@ -40,11 +41,11 @@ abbrev window : List ℕ → ℕ → ℕ → ℕ → Transfer
 window bytes from len actual = record { setup = None; buf = bytes; from = from; len = len; short_not_ok = false; actual = actual; number = 6 }
 
 abbrev wrote : Code → Transfer → Completion
-wrote status t = completion Write status t
+wrote status t = record { role = Write; status = status; transfer = t }
 
 -- an answer to the question, whose number is 2
 abbrev answered : List ℕ → ℕ → Completion
-answered bytes n = completion Ctl Zero (record (question_of 2 0) { buf = bytes; actual = n })
+answered bytes n = record { role = Ctl; status = Zero; transfer = record (question_of 2 0) { buf = bytes; actual = n } }
 
 a_job_of_two_windows : (bytes : List ℕ) → length bytes ≡ 8193
     → (action_of Write Zero (window bytes 0 8192 8192) ≡ Again 8192 1) × (action_of Write Zero (window bytes 8192 1 1) ≡ Rest)
@@ -69,7 +70,7 @@ which_faults_are_asked_about : (t : Transfer)
 which_faults_are_asked_about t = (refl, refl, refl, refl, refl, refl)
 
 -- an answer of no byte, and a reset, say nothing of the port
-what_says_nothing : print_events [] (answered (0x18 ∷ []) 0 ∷ completion Ctl Zero (window [] 0 0 0) ∷ []) ≡ []
+what_says_nothing : print_events [] (answered (0x18 ∷ []) 0 ∷ record { role = Ctl; status = Zero; transfer = window [] 0 0 0 } ∷ []) ≡ []
 what_says_nothing = refl
 
 requests_of_a_printer : (bytes_of (get_port_status 3) ≡ status_packet 3) × (bytes_of (soft_reset 3) ≡ 0x21 ∷ 2 ∷ 0 ∷ 0 ∷ 3 ∷ 0 ∷ 0 ∷ 0 ∷ [])

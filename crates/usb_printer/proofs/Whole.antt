@@ -16,7 +16,8 @@ use Rattle.usb_machine.specs.declared.transfer.Transfer.{Transfer}
 use Rattle.usb_printer.specs.declared.event.Event.{Event}
 use Rattle.usb_printer.specs.declared.event.Event.TheVariants.{Job}
 use Rattle.usb_printer.specs.Ids.{id_events}
-use Rattle.usb_printer.specs.Jobs.{Completion, moved_of, first_window, rest_of, is_over, is_unlink, job_events, told_by, events_of, print_events, action_of}
+use Rattle.usb_machine.specs.Completion.{Completion, moved_bytes, after_window}
+use Rattle.usb_printer.specs.Jobs.{first_window, is_over, is_unlink, job_events, told_by, events_of, print_events, action_of}
 use Rattle.usb_printer.specs.Whole.{IsMovedOn, IsNotAgain, action_behind, IsWindow, IsJob, WentWell, printed, moved_in, begins_at}
 
 pub print_events-append : (id : List ℕ) (before after : List Completion) → print_events id (before ++ after) ≡ print_events id before ++ flat_map events_of after
@@ -35,7 +36,7 @@ print_events-snoc id done c old new s e =
 
 -- what a transfer is that was moved on
 abbrev Moved : Transfer → Transfer → Type 0
-Moved t next = next ≡ record t { from = t.from + t.len; len = first_window (rest_of t); actual = next.actual }
+Moved t next = next ≡ record t { from = t.from + t.len; len = first_window (after_window t); actual = next.actual }
 
 fault_stays : (b : Bool) (t next : Transfer) → IsMovedOn (cond b Rest Ask) t next → ⊥
 fault_stays true t next h = h
@@ -43,18 +44,18 @@ fault_stays false t next h = h
 
 moved_by : (status : Code) (t next : Transfer) → IsMovedOn (action_of Write status t) t next → (status ≡ Zero) × (Moved t next) × (is_over status t ≡ false)
 moved_by (Fault errno) t next h = absurd (fault_stays (is_unlink errno) t next h)
-moved_by Zero t next h = go (rest_of t == 0) refl h
+moved_by Zero t next h = go (after_window t == 0) refl h
   where
-    go : (b : Bool) → (rest_of t == 0) ≡ b → IsMovedOn (cond b Rest (Again (t.from + t.len) (first_window (rest_of t)))) t next
-        → (Zero ≡ Zero) × (Moved t next) × ((rest_of t == 0) ≡ false)
+    go : (b : Bool) → (after_window t == 0) ≡ b → IsMovedOn (cond b Rest (Again (t.from + t.len) (first_window (after_window t)))) t next
+        → (Zero ≡ Zero) × (Moved t next) × ((after_window t == 0) ≡ false)
     go true e h = absurd h
     go false e h = (refl, h, e)
 
 over_by : (status : Code) (t : Transfer) → IsNotAgain (action_of Write status t) → is_over status t ≡ true
 over_by (Fault errno) t h = refl
-over_by Zero t h = go (rest_of t == 0) refl h
+over_by Zero t h = go (after_window t == 0) refl h
   where
-    go : (b : Bool) → (rest_of t == 0) ≡ b → IsNotAgain (cond b Rest (Again (t.from + t.len) (first_window (rest_of t)))) → (rest_of t == 0) ≡ true
+    go : (b : Bool) → (after_window t == 0) ≡ b → IsNotAgain (cond b Rest (Again (t.from + t.len) (first_window (after_window t)))) → (after_window t == 0) ≡ true
     go true e h = e
     go false e h = absurd h
 
@@ -62,10 +63,10 @@ over_by Zero t h = go (rest_of t == 0) refl h
 reaches_end : (c : Completion) → IsNotAgain (action_behind c) → WentWell c → length c.transfer.buf ≤ c.transfer.from + c.transfer.len
 reaches_end c h w =
     let over : is_over Zero c.transfer ≡ true = ap (λ (s : Code). is_over s c.transfer) (sym w.status) ∙ over_by c.status c.transfer h in
-    let none : length c.transfer.buf - (c.transfer.from + c.transfer.len) ≡ 0 = eqb-true (rest_of c.transfer) 0 over in
+    let none : length c.transfer.buf - (c.transfer.from + c.transfer.len) ≡ 0 = eqb-true (after_window c.transfer) 0 over in
     omega arith
 
-last_bytes : (c : Completion) → IsNotAgain (action_behind c) → WentWell c → moved_of c.transfer ≡ drop c.transfer.from c.transfer.buf
+last_bytes : (c : Completion) → IsNotAgain (action_behind c) → WentWell c → moved_bytes c.transfer ≡ drop c.transfer.from c.transfer.buf
 last_bytes c h w =
     let end : length c.transfer.buf ≤ c.transfer.from + c.transfer.len = reaches_end c h w in
     let moved : c.transfer.actual ≡ c.transfer.len = w.moved in
@@ -73,7 +74,7 @@ last_bytes c h w =
     take_all c.transfer.actual (drop c.transfer.from c.transfer.buf) (omega arith)
 
 -- a window that went well, and all after it
-seam : (t next : Transfer) → t.actual ≡ t.len → Moved t next → moved_of t ++ drop next.from next.buf ≡ drop t.from t.buf
+seam : (t next : Transfer) → t.actual ≡ t.len → Moved t next → moved_bytes t ++ drop next.from next.buf ≡ drop t.from t.buf
 seam t next w m =
     ap (λ (n : ℕ). take n (drop t.from t.buf) ++ drop next.from next.buf) w
     ∙ ap (λ (x : Transfer). take t.len (drop t.from t.buf) ++ drop x.from x.buf) m
@@ -81,16 +82,16 @@ seam t next w m =
     ∙ take-append-drop t.len (drop t.from t.buf)
 
 abbrev moved_by_window : Completion → List ℕ
-moved_by_window c = moved_of c.transfer
+moved_by_window c = moved_bytes c.transfer
 
 printed_from : (c : Completion) (more : List Completion) → IsJob (c ∷ more) → All WentWell (c ∷ more) → printed (c ∷ more) ≡ drop c.transfer.from c.transfer.buf
 printed_from c [] j w =
-    flat_map-cons moved_by_window c [] ∙ append-nil (moved_of c.transfer) ∙ last_bytes c j.1 (All-head WentWell c [] w)
+    flat_map-cons moved_by_window c [] ∙ append-nil (moved_bytes c.transfer) ∙ last_bytes c j.1 (All-head WentWell c [] w)
 printed_from c (next ∷ more) j w =
     let here : WentWell c = All-head WentWell c (next ∷ more) w in
     let moved = moved_by c.status c.transfer next.transfer j.1 in
     flat_map-cons moved_by_window c (next ∷ more)
-    ∙ ap (λ (xs : List ℕ). moved_of c.transfer ++ xs) (printed_from next more j.2 (All-tail WentWell c (next ∷ more) w))
+    ∙ ap (λ (xs : List ℕ). moved_bytes c.transfer ++ xs) (printed_from next more j.2 (All-tail WentWell c (next ∷ more) w))
     ∙ seam c.transfer next.transfer here.moved moved.1
 
 pub printed_in_order : (first : Completion) (more : List Completion) → IsJob (first ∷ more) → first.transfer.from ≡ 0

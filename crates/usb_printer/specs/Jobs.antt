@@ -1,5 +1,5 @@
 -- The events of a printer, of all that its URBs brought back, and what becomes of a job's transfer.
-use Rattle.std.specs.Prelude.{ℕ, ◌+◌, ◌-◌, min, ◌&&◌, ◌==◌, Bool, true, false, if◌then◌else◌, List, [], ◌∷◌, ◌++◌, take, drop, length, Option, Some, None, slice_index}
+use Rattle.std.specs.Prelude.{ℕ, ◌+◌, min, ◌&&◌, ◌==◌, Bool, true, false, if◌then◌else◌, List, [], ◌∷◌, ◌++◌, Option, Some, None, slice_index}
 use Rattle.std.specs.List.{flat_map}
 use Rattle.usb_types.specs.declared.errno.Errno.{Errno}
 use Rattle.usb_types.specs.declared.errno.Errno.TheVariants.{ENOENT, ECONNRESET, ESHUTDOWN}
@@ -10,34 +10,18 @@ use Rattle.usb_types.specs.declared.urb.Role.TheVariants.{Write, Ctl}
 use Rattle.usb_types.specs.declared.urb.Action.{Action}
 use Rattle.usb_types.specs.declared.urb.Action.TheVariants.{Rest, Again, Ask}
 use Rattle.usb_machine.specs.declared.transfer.Transfer.{Transfer}
+use Rattle.usb_machine.specs.Completion.{Completion, moved_bytes, after_window}
 use Rattle.usb_printer.specs.declared.event.Event.{Event}
 use Rattle.usb_printer.specs.declared.event.Event.TheVariants.{Job, Port}
 use Rattle.usb_printer.specs.Ids.{id_events}
-
--- an URB of the printer came back: what it is for, its status, and its transfer as it was moved
-pub record Completion : Type 0 where
-  pub role : Role
-  pub status : Code
-  pub transfer : Transfer
-
-abbrev pub completion : Role → Code → Transfer → Completion
-completion role status t = record { role = role; status = status; transfer = t }
-
--- the moved bytes are the first ones of the window
-abbrev pub moved_of : Transfer → List ℕ
-moved_of t = take t.actual (drop t.from t.buf)
 
 -- a job of this many bytes begins with a window of at most 8,192
 abbrev pub first_window : ℕ → ℕ
 first_window n = min n 8192
 
--- the bytes of a job that its windows so far do not reach
-abbrev pub rest_of : Transfer → ℕ
-rest_of t = length t.buf - (t.from + t.len)
-
 -- a job ends with its last window, and at its first fault
 abbrev pub is_over : Code → Transfer → Bool
-is_over Zero t = rest_of t == 0
+is_over Zero t = after_window t == 0
 is_over (Fault errno) t = true
 
 -- a job that is over has a line: the bytes of the windows before, and what was moved of the last
@@ -55,7 +39,7 @@ port_in (status ∷ []) = Port status ∷ []
 port_in moved = []
 
 abbrev pub port_events : Code → Transfer → List Event
-port_events Zero t = if asks_port t.setup then port_in (moved_of t) else []
+port_events Zero t = if asks_port t.setup then port_in (moved_bytes t) else []
 port_events (Fault errno) t = []
 
 -- what an URB that came back reports
@@ -80,6 +64,6 @@ is_unlink errno = false
 
 -- after a window that went well comes the next one, and after a fault the question, unless the driver's own side made it
 abbrev pub action_of : Role → Code → Transfer → Action
-action_of Write Zero t = if rest_of t == 0 then Rest else Again (t.from + t.len) (first_window (rest_of t))
+action_of Write Zero t = if after_window t == 0 then Rest else Again (t.from + t.len) (first_window (after_window t))
 action_of Write (Fault errno) t = if is_unlink errno then Rest else Ask
 action_of role status t = Rest

@@ -4,7 +4,8 @@ use Rattle.usb_types.specs.declared.urb.Role.{Role}
 use Rattle.usb_types.specs.declared.urb.Role.TheVariants.{Write, Ctl}
 use Rattle.usb_machine.specs.declared.transfer.Transfer.{Transfer}
 use Rattle.usb_printer.specs.declared.event.Event.{Event}
-use Rattle.usb_printer.specs.Jobs.{Completion, events_of, print_events}
+use Rattle.usb_machine.specs.Completion.{Completion}
+use Rattle.usb_printer.specs.Jobs.{events_of, print_events}
 
 -- the number and the interface of its question, whether the question is out, and the events so far
 pub record PrinterState : Type 0 where

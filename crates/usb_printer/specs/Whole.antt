@@ -7,7 +7,8 @@ use Rattle.usb_types.specs.declared.urb.Action.{Action}
 use Rattle.usb_types.specs.declared.urb.Action.TheVariants.{Rest, Again, Ask}
 use Rattle.usb_machine.specs.Shapes.{HasWindow}
 use Rattle.usb_machine.specs.declared.transfer.Transfer.{Transfer}
-use Rattle.usb_printer.specs.Jobs.{Completion, moved_of, action_of}
+use Rattle.usb_machine.specs.Completion.{Completion, moved_bytes}
+use Rattle.usb_printer.specs.Jobs.{action_of}
 
 -- the transfer is submitted again with this window, and so much of it is moved
 abbrev pub IsMovedOn : Action → Transfer → Transfer → Type 0
@@ -40,7 +41,7 @@ pub record WentWell (c : Completion) : Type 0 where
 
 -- what was printed
 abbrev pub printed : List Completion → List ℕ
-printed job = flat_map (λ (c : Completion). moved_of c.transfer) job
+printed job = flat_map (λ (c : Completion). moved_bytes c.transfer) job
 
 -- how many bytes were moved in all
 abbrev pub moved_in : List Completion → ℕ

@@ -4,7 +4,7 @@ ghost use Rattle.std.specs.Option.{option_to_list};
 ghost use Rattle.usb_types.specs.declared.urb.Role.TheVariants.{Write};
 ghost use Rattle.usb_types.specs.declared.errno.Code.TheVariants.{Zero};
 ghost use Rattle.usb_machine.specs.Shapes.{HasWindow};
-ghost use Rattle.usb_printer.specs.Jobs.{first_window, rest_of, is_over, asks_port, job_events, port_events, told_by, action_of};
+ghost use Rattle.usb_printer.specs.Jobs.{first_window, is_over, asks_port, job_events, port_events, told_by, action_of};
 
 use crate::event::Event;
 use usb_machine::Transfer;
@@ -39,20 +39,13 @@ fn next_window(t: &Transfer) -> Action
     requires { HasWindow t.now }
     ensures { result ≡ action_of Write Zero t.now }
 {
-    match rest(t) {
+    match t.after_window() {
         0 => Action::Rest,
         rest => Action::Again {
             from: t.from + t.len,
             len: first_window(rest),
         },
     }
-}
-
-fn rest(t: &Transfer) -> u32
-    requires { HasWindow t.now }
-    ensures { result ≡ rest_of t.now }
-{
-    t.buf.bytes().len() as u32 - (t.from + t.len)
 }
 
 /// What a transfer that came back reports.
@@ -85,7 +78,7 @@ fn is_over(code: Code, t: &Transfer) -> bool
     requires { HasWindow t.now }
     ensures { result ≡ is_over code t.now }
 {
-    code != Code::Zero || rest(t) == 0
+    code != Code::Zero || t.after_window() == 0
 }
 
 fn port_event(code: Code, t: &Transfer) -> Option<Event>
@@ -95,8 +88,7 @@ fn port_event(code: Code, t: &Transfer) -> Option<Event>
     if code != Code::Zero || !asks_port(&t.setup) {
         return None;
     }
-    let from = t.from as usize;
-    match &t.buf.bytes()[from..from + t.actual as usize] {
+    match t.moved() {
         [status] => Some(Event::Port { status: *status }),
         _ => None,
     }

@@ -7,7 +7,8 @@ ghost use Rattle.usb_types.specs.declared.urb.Role.{Role};
 ghost use Rattle.usb_types.specs.declared.urb.Action.TheVariants.{Again};
 ghost use Rattle.usb_machine.specs.declared.transfer.Transfer.{Transfer};
 ghost use Rattle.usb_printer.specs.declared.event.Event.TheVariants.{Job};
-ghost use Rattle.usb_printer.specs.Jobs.{Completion, events_of, print_events, action_of};
+ghost use Rattle.usb_machine.specs.Completion.{Completion};
+ghost use Rattle.usb_printer.specs.Jobs.{events_of, print_events, action_of};
 ghost use Rattle.usb_printer.specs.Whole.{IsJob, WentWell, printed, moved_in, begins_at};
 
 /// What was reported stays reported: completions that follow add events after those so far.

@@ -36,7 +36,8 @@ impl Model for Printer {
 impl Printer {
     ghost use Rattle.usb_machine.specs.Shapes.{HasWindow};
     ghost use Rattle.usb_printer.specs.Ids.{id_events};
-    ghost use Rattle.usb_printer.specs.Jobs.{Completion, completion, action_of};
+    ghost use Rattle.usb_machine.specs.Completion.{Completion};
+    ghost use Rattle.usb_printer.specs.Jobs.{action_of};
     ghost use Rattle.usb_printer.specs.Printer.{PrinterState, IsOfPrinter, IsAfter, noted};
 
     /// The core of a printer to which nothing came back yet. The id is the reply to GET_DEVICE_ID, and empty where there
@@ -98,8 +99,8 @@ impl Printer {
         requires role { IsOfPrinter role }
         requires window { HasWindow t.now }
         ensures action { IfOk result (λ action. action ≡ action_of role code t.now) }
-        ensures core { OnOk result (self.new ≡ noted self.old (completion role code t.now)) }
-        ensures stands { (id : List ℕ) (done : List Completion) → IsAfter self.old id done → OnOk result (IsAfter self.new id (done ++ completion role code t.now ∷ [])) }
+        ensures core { OnOk result (self.new ≡ noted self.old record { role = role; status = code; transfer = t.now }) }
+        ensures stands { (id : List ℕ) (done : List Completion) → IsAfter self.old id done → OnOk result (IsAfter self.new id (done ++ record { role = role; status = code; transfer = t.now } ∷ [])) }
         ensures memory { OnErr result (self.new ≡ self.old) }
     {
         self.note(role, code, t)?;
@@ -109,7 +110,7 @@ impl Printer {
     /// Takes note of an URB that came back. An `Err` changes nothing.
     fn note(&mut self, role: Role, code: Code, t: &Transfer) -> Result<(), Memory>
         requires { HasWindow t.now }
-        ensures ok { OnOk result (self.new ≡ noted self.old (completion role code t.now)) }
+        ensures ok { OnOk result (self.new ≡ noted self.old record { role = role; status = code; transfer = t.now }) }
         ensures err { OnErr result (self.new ≡ self.old) }
     {
         let told = event(role, code, t);

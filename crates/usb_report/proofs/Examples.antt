@@ -20,6 +20,7 @@ use Rattle.usb_prepare.specs.declared.found.Taken.TheVariants as taken
 use Rattle.usb_prepare.specs.declared.found.InterfaceFound.{InterfaceFound}
 use Rattle.usb_prepare.specs.declared.found.Found.{Found}
 use Rattle.usb_prepare.specs.declared.found.Found.TheVariants as found
+use Rattle.usb_line.specs.declared.line.LineOutcome.{LineOutcome}
 use Rattle.usb_line.specs.declared.made.CallAnswer.TheVariants as told
 use Rattle.usb_line.specs.declared.made.Outcome.TheVariants as outcome
 use Rattle.usb_report.specs.Names.{urb_name}
@@ -85,12 +86,17 @@ module _ (any : SceneDevice) where
   listed = refl
 
   -- the sections in their order
-  reported : text_of scene (found.Raw ∷ []) (modem ∷ [])
-      (record { thread = 0; line = 7; operation = Kill; target = on.Role 1 0 Read0; answer = told.Buffer None } ∷ [])
-      (record { urb = 0; status = Fault ENOENT; actual = 2; outcome = outcome.Again Zero; bytes = 0x0A ∷ 0xFF ∷ [] } ∷ [])
-      (Serial [] 0 ∷ [])
-      []
-      ≡ codes "thread t\n7 kill m.0.read0 none\ngiven\na -ENOENT 2 again 0 0AFF\ndriver m 0 cdc_acm\n"
+  abbrev outcome_of_one : LineOutcome
+  outcome_of_one = record {
+    found = found.Raw ∷ [];
+    board = record { devices = []; firsts = []; bindings = modem ∷ [] };
+    made = record { thread = 0; line = 7; operation = Kill; target = on.Role 1 0 Read0; answer = told.Buffer None } ∷ [];
+    given = record { urb = 0; status = Fault ENOENT; actual = 2; outcome = outcome.Again Zero; bytes = 0x0A ∷ 0xFF ∷ [] } ∷ [];
+    told = Serial [] 0 ∷ [];
+    ends = [];
+  }
+
+  reported : text_of scene outcome_of_one ≡ codes "thread t\n7 kill m.0.read0 none\ngiven\na -ENOENT 2 again 0 0AFF\ndriver m 0 cdc_acm\n"
   unfolding digits urb_name
   reported = refl
 

@@ -5,10 +5,8 @@ use Rattle.std.specs.List.{flat_map, list_all}
 use Rattle.usb_types.specs.Codes.{code_text}
 use Rattle.usb_text.specs.Print.{hex_pair, hex_text, line}
 use Rattle.usb_bind.specs.declared.bound.Bound.{Bound}
-use Rattle.usb_class.specs.declared.class_core.Told.{Told}
 use Rattle.usb_scene.specs.declared.scene.Scene.{Scene}
-use Rattle.usb_prepare.specs.declared.found.Found.{Found}
-use Rattle.usb_line.specs.declared.made.CallMade.{CallMade}
+use Rattle.usb_line.specs.declared.line.LineOutcome.{LineOutcome}
 use Rattle.usb_line.specs.declared.made.Outcome.{Outcome}
 use Rattle.usb_line.specs.declared.made.Outcome.TheVariants as outcome
 use Rattle.usb_line.specs.declared.made.GivebackRow.{GivebackRow}
@@ -47,6 +45,6 @@ received_section s ends = if list_all has_none ends then [] else line (codes "re
 
 -- the report of a run: what the devices are found to be, the calls with their answers, what was given back, what the
 -- drivers report, and what the endpoints received
-abbrev pub text_of : Scene → List Found → List Bound → List CallMade → List GivebackRow → List Told → List EndReceived → List ℕ
-text_of s found bindings made given told ends =
-    list_text s found ++ threads_text s made ++ given_section s bindings given ++ drivers_section s bindings told ++ received_section s ends
+abbrev pub text_of : Scene → LineOutcome → List ℕ
+text_of s o =
+    list_text s o.found ++ threads_text s o.made ++ given_section s o.board.bindings o.given ++ drivers_section s o.board.bindings o.told ++ received_section s o.ends

@@ -11,9 +11,7 @@ use crate::listing::push_list;
 use crate::names::{push_device, push_urb};
 use crate::telling::push_drivers;
 use usb_bind::Bound;
-use usb_class::Told;
-use usb_line::{CallMade, EndReceived, GivebackRow, Outcome};
-use usb_prepare::Found;
+use usb_line::{EndReceived, GivebackRow, LineOutcome, Outcome};
 use usb_scene::Scene;
 use usb_text::{push_hex, push_number, push_pairs};
 use usb_types::{Buf, Code, Memory};
@@ -149,23 +147,15 @@ fn push_received(report: &mut Buf, scene: &Scene, ends: &[EndReceived]) -> Resul
 
 /// Adds the report of a run: what the devices are found to be, the calls that were made, what was given back, what the
 /// drivers report, and what the endpoints received.
-pub fn push_report(
-    report: &mut Buf,
-    scene: &Scene,
-    found: &[Found],
-    bindings: &[Bound],
-    made: &[CallMade],
-    given: &[GivebackRow],
-    told: &[Told],
-    ends: &[EndReceived],
-) -> Result<(), Memory>
-    requires devices { length found.now < 2 ^ 32 }
+pub fn push_report(report: &mut Buf, scene: &Scene, outcome: &LineOutcome) -> Result<(), Memory>
+    requires devices { length outcome.now.found < 2 ^ 32 }
     requires threads { length scene.now.threads < 2 ^ 32 }
-    ensures { OnOk result (report.new ≡ report.old ++ text_of scene.now found.now bindings.now made.now given.now told.now ends.now) }
+    ensures { OnOk result (report.new ≡ report.old ++ text_of scene.now outcome.now) }
 {
-    push_list(report, scene, found)?;
-    push_threads(report, scene, made)?;
-    push_all_given(report, scene, bindings, given)?;
-    push_drivers(report, scene, bindings, told)?;
-    push_received(report, scene, ends)
+    let bindings = outcome.board.bindings();
+    push_list(report, scene, outcome.found.items())?;
+    push_threads(report, scene, outcome.made.items())?;
+    push_all_given(report, scene, bindings, outcome.given.items())?;
+    push_drivers(report, scene, bindings, outcome.told.items())?;
+    push_received(report, scene, outcome.ends.items())
 }

@@ -1,17 +1,14 @@
 -- What the program's call does, status by status.
-use Rattle.std.specs.Prelude.{◌≡◌, ℕ, Bool, true, false, List, [], ◌++◌, map, Option, Some, Ok, Err}
+use Rattle.std.specs.Prelude.{◌≡◌, ℕ, Bool, true, false, List, [], ◌++◌, Option, Some, Ok, Err}
 use Rattle.std.specs.Io.KnownBytes.{Appends}
 use Rattle.usb_types.specs.Causes.{Rose}
 use Rattle.usb_scene.specs.declared.scene.Scene.{Scene}
 use Rattle.usb_scene.specs.declared.cause.Cause.{Cause}
 use Rattle.usb_scene.specs.Read.{scene_of}
-use Rattle.usb_prepare.specs.Below.{below}
-use Rattle.usb_prepare.specs.Ends.{ends_of}
-use Rattle.usb_prepare.specs.Prepared.{bindings_of, found_of}
-use Rattle.usb_line.specs.Run.{CallRecord, Giveback, IsRun, drivers_told}
+use Rattle.usb_prepare.specs.Prepared.{found_of}
+use Rattle.usb_line.specs.Run.{CallRecord, Giveback, IsRun}
 use Rattle.usb_line.specs.Line.{Progress, IsLineRun}
-use Rattle.usb_line.specs.GivebackRow.{giveback_row}
-use Rattle.usb_line.specs.Outcome.{made_of, end_of}
+use Rattle.usb_line.specs.Outcome.{outcome_of}
 use Rattle.usb_summary.specs.Summed.{IsSummed}
 use Rattle.usb_report.specs.Listing.{list_text}
 use Rattle.usb_report.specs.Report.{text_of}
@@ -29,8 +26,7 @@ list_of s = list_text s (found_of s)
 -- the report of a run: what its devices are found to be, its calls with their answers, its givebacks, what its drivers report,
 -- and what its endpoints received
 abbrev pub report_of : Scene → List CallRecord → List Giveback → List ℕ
-report_of s call_records rounds =
-    text_of s (found_of s) (bindings_of s) (map made_of call_records) (map (giveback_row s) rounds) (drivers_told s rounds) (map (end_of s rounds) (below (ends_of s)))
+report_of s call_records rounds = text_of s (outcome_of s call_records rounds)
 
 -- the text is the report of the scene's run in line order. That run is a run of the scene
 pub record IsReport (s : Scene) (text : List ℕ) : Type 0 where

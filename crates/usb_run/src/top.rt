@@ -20,7 +20,7 @@ use std::alloc::Global;
 use std::sync::Wait;
 use std::thread::Threads;
 use usb_line::run_line;
-use usb_prepare::{Prepared, prepare};
+use usb_prepare::prepare;
 use usb_report::{push_list, push_report};
 use usb_scene::{Scene, SceneFault, read_scene};
 use usb_summary::summary;
@@ -31,24 +31,9 @@ pub fn serial(alloc: Global, scene: &Scene, text: &mut Buf) -> Result<(), Memory
     requires { IsWellFormed scene.now }
     ensures { OnOk result (AddsReport scene.now text.old text.new) }
 {
-    let Prepared {
-        devices,
-        found,
-        board,
-        ids,
-        layout,
-    } = prepare(alloc, scene)?;
-    let outcome = run_line(alloc, scene, devices, &board, ids.items(), &layout)?;
-    push_report(
-        text,
-        scene,
-        found.items(),
-        board.bindings(),
-        outcome.made.items(),
-        outcome.given.items(),
-        outcome.told.items(),
-        outcome.ends.items(),
-    )?;
+    let prepared = prepare(alloc, scene)?;
+    let outcome = run_line(alloc, scene, prepared)?;
+    push_report(text, scene, &outcome)?;
     Ok(())
 }
 

@@ -3,7 +3,7 @@ use Rattle.std.proofs.Common.{◌≡◌, refl}
 use Rattle.std.specs.Prelude.{codes, unwrap_or}
 use Rattle.usb_types.specs.Table.{code_at}
 use Rattle.usb_types.specs.Rows.{call_table}
-use Rattle.usb_statement.specs.Printed.{urb_call_text, bare_call_text, interface_word_text}
+use Rattle.usb_statement.specs.Words.{urb_call_text, bare_call_text, interface_word_text}
 use Rattle.usb_statement.specs.InterfaceCalls.{interface_word}
 use Rattle.usb_statement.specs.declared.keyword.UrbCall.{UrbCall}
 use Rattle.usb_statement.specs.declared.keyword.UrbCall.TheVariants as on

@@ -1,6 +1,6 @@
 -- A call without a cause against it leaves the scene well formed.
 use Rattle.std.proofs.Common.{◌≡◌, ℕ, ◌<◌, ◌≤◌, ◌^◌, inl, inr, true, false, cond, List, [], ◌∷◌, ◌++◌, length, Option, Some, None, refl, sym, ap, ◌∙◌, arith, subst, lit≤}
-use Rattle.std.specs.Prelude.{◌≢◌, nat_le, nat_lt, slice_get, codes}
+use Rattle.std.specs.Prelude.{◌≢◌, ◌==◌, Bool, nat_le, nat_lt, slice_get, codes}
 use Rattle.std.specs.List.{All}
 use Rattle.std.specs.Str.{bytes_eq}
 use Rattle.std.proofs.lemmas.Bool.{and_parts, leb-true, true≢false}
@@ -232,136 +232,48 @@ interface_codes (made.Print bytes) = (lit≤ tt, lit≤ tt)
 interface_codes made.Status = (lit≤ tt, lit≤ tt)
 interface_codes made.SoftReset = (lit≤ tt, lit≤ tt)
 
--- what it carries
-record Carries (c : Call) : Type 0 where
-  buffer : IsBuffer c.bytes
-  lights : c.code ≡ 23 → CarriesBytes 1 c.bytes
-  written : c.code ≡ 24 → CarriesBuffer c.bytes
-  coding : c.code ≡ 25 → IsCoding c
-  lines : c.code ≡ 26 → CarriesBytes 1 c.bytes
-  pause : c.code ≡ 27 → IsBreak c
-  printed : c.code ≡ 28 → CarriesBuffer c.bytes
-  question : c.code ≡ 29 → c.bytes ≡ None
-  soft_reset : c.code ≡ 30 → c.bytes ≡ None
+abbrev Where : Bool → Type 0 → Type 0
+Where true P = P
+Where false P = Unit
 
-carries : (line : ℕ) (v : Target) (call : InterfaceCall) → IsCarried call → carries_within call ≡ true → Carries (interface_call line v call)
-carries line v (made.Led lights) said within =
-    record {
-      buffer = lit≤ tt;
-      lights = λ e. refl;
-      written = λ e. absurd (omega arith);
-      coding = λ e. absurd (omega arith);
-      lines = λ e. absurd (omega arith);
-      pause = λ e. absurd (omega arith);
-      printed = λ e. absurd (omega arith);
-      question = λ e. absurd (omega arith);
-      soft_reset = λ e. absurd (omega arith);
-    }
-carries line v (made.Write bytes) said within =
-    let few = leb-true (length bytes) 16384 within in
-    record {
-      buffer = few;
-      lights = λ e. absurd (omega arith);
-      written = λ e. few;
-      coding = λ e. absurd (omega arith);
-      lines = λ e. absurd (omega arith);
-      pause = λ e. absurd (omega arith);
-      printed = λ e. absurd (omega arith);
-      question = λ e. absurd (omega arith);
-      soft_reset = λ e. absurd (omega arith);
-    }
+-- what a call with this number must carry
+abbrev Carries : ℕ → Call → Type 0
+Carries code c =
+    Where (code == 23) (CarriesBytes 1 c.bytes) × Where (code == 24) (CarriesBuffer c.bytes) × Where (code == 25) (IsCoding c) × Where (code == 26) (CarriesBytes 1 c.bytes)
+    × Where (code == 27) (IsBreak c) × Where (code == 28) (CarriesBuffer c.bytes) × Where (code == 29) (c.bytes ≡ None) × Where (code == 30) (c.bytes ≡ None)
+
+carries : (line : ℕ) (v : Target) (call : InterfaceCall) → IsCarried call → carries_within call ≡ true
+    → IsBuffer (interface_call line v call).bytes × Carries (interface_call_code call) (interface_call line v call)
+carries line v (made.Led lights) said within = (lit≤ tt, (refl, tt, tt, tt, tt, tt, tt, tt))
+carries line v (made.Write bytes) said within = let few = leb-true (length bytes) 16384 within in (few, (tt, few, tt, tt, tt, tt, tt, tt))
 carries line v (made.Coding rate stop parity bits) said within =
     let most = and_parts (nat_le stop 2) (nat_le parity 4) within in
-    record {
-      buffer = tt;
-      lights = λ e. absurd (omega arith);
-      written = λ e. absurd (omega arith);
-      coding = λ e. record { alone = refl; rate = said.rate_number; stop = leb-true stop 2 most.0; parity = leb-true parity 4 most.1; bits = said.bits_of_data };
-      lines = λ e. absurd (omega arith);
-      pause = λ e. absurd (omega arith);
-      printed = λ e. absurd (omega arith);
-      question = λ e. absurd (omega arith);
-      soft_reset = λ e. absurd (omega arith);
-    }
-carries line v (made.Control lines) said within =
-    record {
-      buffer = lit≤ tt;
-      lights = λ e. absurd (omega arith);
-      written = λ e. absurd (omega arith);
-      coding = λ e. absurd (omega arith);
-      lines = λ e. refl;
-      pause = λ e. absurd (omega arith);
-      printed = λ e. absurd (omega arith);
-      question = λ e. absurd (omega arith);
-      soft_reset = λ e. absurd (omega arith);
-    }
-carries line v (made.SendBreak ms) said within =
-    record {
-      buffer = tt;
-      lights = λ e. absurd (omega arith);
-      written = λ e. absurd (omega arith);
-      coding = λ e. absurd (omega arith);
-      lines = λ e. absurd (omega arith);
-      pause = λ e. record { alone = refl; ms = leb-true ms 65535 within };
-      printed = λ e. absurd (omega arith);
-      question = λ e. absurd (omega arith);
-      soft_reset = λ e. absurd (omega arith);
-    }
-carries line v (made.Print bytes) said within =
-    let few = leb-true (length bytes) 16384 within in
-    record {
-      buffer = few;
-      lights = λ e. absurd (omega arith);
-      written = λ e. absurd (omega arith);
-      coding = λ e. absurd (omega arith);
-      lines = λ e. absurd (omega arith);
-      pause = λ e. absurd (omega arith);
-      printed = λ e. few;
-      question = λ e. absurd (omega arith);
-      soft_reset = λ e. absurd (omega arith);
-    }
-carries line v made.Status said within =
-    record {
-      buffer = tt;
-      lights = λ e. absurd (omega arith);
-      written = λ e. absurd (omega arith);
-      coding = λ e. absurd (omega arith);
-      lines = λ e. absurd (omega arith);
-      pause = λ e. absurd (omega arith);
-      printed = λ e. absurd (omega arith);
-      question = λ e. refl;
-      soft_reset = λ e. absurd (omega arith);
-    }
-carries line v made.SoftReset said within =
-    record {
-      buffer = tt;
-      lights = λ e. absurd (omega arith);
-      written = λ e. absurd (omega arith);
-      coding = λ e. absurd (omega arith);
-      lines = λ e. absurd (omega arith);
-      pause = λ e. absurd (omega arith);
-      printed = λ e. absurd (omega arith);
-      question = λ e. absurd (omega arith);
-      soft_reset = λ e. refl;
-    }
+    let coding : IsCoding (interface_call line v (made.Coding rate stop parity bits)) = record { alone = refl; rate = said.rate_number; stop = leb-true stop 2 most.0; parity = leb-true parity 4 most.1; bits = said.bits_of_data } in
+    (tt, (tt, tt, coding, tt, tt, tt, tt, tt))
+carries line v (made.Control lines) said within = (lit≤ tt, (tt, tt, tt, refl, tt, tt, tt, tt))
+carries line v (made.SendBreak ms) said within = (tt, (tt, tt, tt, tt, record { alone = refl; ms = leb-true ms 65535 within }, tt, tt, tt))
+carries line v (made.Print bytes) said within = let few = leb-true (length bytes) 16384 within in (few, (tt, tt, tt, tt, tt, few, tt, tt))
+carries line v made.Status said within = (tt, (tt, tt, tt, tt, tt, tt, refl, tt))
+carries line v made.SoftReset said within = (tt, (tt, tt, tt, tt, tt, tt, tt, refl))
 
 interface_is : (s : Scene) (line : ℕ) (v : Target) (call : InterfaceCall) → IsBuilt s (interface_call_code call) v → line < 2 ^ 31 → IsCarried call
     → carries_within call ≡ true → IsCall s (interface_call line v call)
 interface_is s line v call there low said within =
     let c = carries line v call said within in
+    let at : (code : ℕ) → interface_call_code call ≡ code → Carries code (interface_call line v call) = λ code e. subst (λ k. Carries k (interface_call line v call)) e c.1 in
     record {
       line = low;
       built = there;
       setup = λ other. refl;
-      bytes = c.buffer;
-      lights = c.lights;
-      written = c.written;
-      coding = c.coding;
-      lines = c.lines;
-      pause = c.pause;
-      printed = c.printed;
-      question = c.question;
-      soft_reset = c.soft_reset;
+      bytes = c.0;
+      lights = λ e. (at 23 e).0;
+      written = λ e. (at 24 e).1;
+      coding = λ e. (at 25 e).2;
+      lines = λ e. (at 26 e).3;
+      pause = λ e. (at 27 e).4;
+      printed = λ e. (at 28 e).5;
+      question = λ e. (at 29 e).6;
+      soft_reset = λ e. (at 30 e).7;
     }
 
 no_hub_interface : (call : InterfaceCall) → is_hub_call (interface_call_code call) ≡ false

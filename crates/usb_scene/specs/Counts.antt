@@ -1,4 +1,5 @@
 -- The rejects that the script being read holds, counted along with its lines.
+use Rattle.usb_types.specs.Limits.{most_calls, most_devices, most_rejects, most_replies, most_urbs}
 use Rattle.std.specs.Prelude.{ℕ, ◌+◌, ◌-◌, ◌≡◌, ◌≤◌, if◌then◌else◌, List, Option, length, unwrap_or, sum_by}
 use Rattle.std.specs.HashMap.{HashMap, get_by}
 use Rattle.usb_scene.specs.declared.scene.Scene.{Scene}
@@ -36,15 +37,15 @@ AreFair calls = (urb : Target) → sum_by (withdrawn urb) calls ≤ sum_by (rais
 -- the count of each URB: how many rejects the script that is being read holds on it
 pub record AreCounted (scene : Scene) (count : Target → ℕ) : Type 0 where
   pub each : (urb : Target) → count urb ≡ held_on urb (calls_of (last_thread scene))
-  pub most : (urb : Target) → count urb ≤ 100
+  pub most : (urb : Target) → count urb ≤ most_rejects
   pub fair : AreFair (calls_of (last_thread scene))
 
 -- a scene with few devices and URBs, to which so many replies and calls may still come, the counts of
 -- its rejects, and where its URBs are found
 pub record IsDraft (scene : Scene) (more_replies more_calls : ℕ) (count : Target → ℕ) (find : List ℕ → Option ℕ) : Type 0 where
-  pub devices : length scene.devices ≤ 16
-  pub urbs : length scene.urbs ≤ 256
-  pub replies : more_replies + all_replies scene ≡ 65536
-  pub calls : more_calls + all_calls scene ≡ 4096
+  pub devices : length scene.devices ≤ most_devices
+  pub urbs : length scene.urbs ≤ most_urbs
+  pub replies : more_replies + all_replies scene ≡ most_replies
+  pub calls : more_calls + all_calls scene ≡ most_calls
   pub rejects : AreCounted scene count
   pub names : FindsUrbs scene find

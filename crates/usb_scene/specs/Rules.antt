@@ -1,5 +1,6 @@
 -- Where a line may stand, what its device answers, what it must name, what it must not repeat, its limits, and its rules
 -- on rejects and the hub.
+use Rattle.usb_types.specs.Limits.{most_again, most_break, most_buffer, most_calls, most_config, most_desc, most_devices, most_id, most_interface, most_interval, most_packet, most_rejects, most_replies, most_threads, most_urbs}
 use Rattle.std.specs.Prelude.{ℕ, ◌+◌, ◌-◌, Bool, true, false, ◌&&◌, ◌||◌, not, ◌==◌, nat_le, nat_lt, if◌then◌else◌, List, [], ◌∷◌, length, Option, Some, None, is_some, position, unwrap_or, slice_get, count_by, codes}
 use Rattle.std.specs.List.{list_all, list_any}
 use Rattle.std.specs.Option.{option_map}
@@ -225,42 +226,42 @@ given_len (Some bytes) = length bytes
 
 -- the most bytes that such a line may give (USB 2.0 §9.4.3: a descriptor's length is a byte, a transfer's two)
 abbrev pub most_of : DeviceBytes → ℕ
-most_of Desc = 255
-most_of Config = 65535
-most_of Id = 65535
+most_of Desc = most_desc
+most_of Config = most_config
+most_of Id = most_id
 
 -- the number of an interface is a byte
 abbrev pub is_low : UrbName → Bool
 is_low (Scripted name) = true
-is_low (Driver device number role) = nat_le number 255
+is_low (Driver device number role) = nat_le number most_interface
 
 -- what a call on an interface carries is within its limits: a buffer; a line coding, whose stop bits are 0 to 2 and whose
 -- parity is 0 to 4 (PSTN 1.2 §6.3.11); a break, whose milliseconds are two bytes (PSTN 1.2 §6.3.13)
 abbrev pub carries_within : InterfaceCall → Bool
-carries_within (made.Write bytes) = nat_le (length bytes) 16384
+carries_within (made.Write bytes) = nat_le (length bytes) most_buffer
 carries_within (made.Coding rate stop parity bits) = nat_le stop 2 && nat_le parity 4
-carries_within (made.SendBreak ms) = nat_le ms 65535
-carries_within (made.Print bytes) = nat_le (length bytes) 16384
+carries_within (made.SendBreak ms) = nat_le ms most_break
+carries_within (made.Print bytes) = nat_le (length bytes) most_buffer
 carries_within _ = true
 
 -- there is room for one call more in the scripts
 abbrev pub has_call_left : Scene → Bool
-has_call_left scene = nat_lt (all_calls scene) 4096
+has_call_left scene = nat_lt (all_calls scene) most_calls
 
 -- the line passes no limit
 abbrev pub is_within : Scene → Statement → Bool
-is_within scene (say.Device name kind) = nat_lt (length scene.devices) 16
-is_within scene (say.Ep address kind size interval) = nat_le size 1024 && nat_le interval 255
+is_within scene (say.Device name kind) = nat_lt (length scene.devices) most_devices
+is_within scene (say.Ep address kind size interval) = nat_le size most_packet && nat_le interval most_interval
 is_within scene (say.Bytes which bytes) = nat_le (length bytes) (most_of which)
 is_within scene (say.Port status) = true
-is_within scene (say.Answer address items) = nat_le (all_replies scene + replies_of items) 65536
+is_within scene (say.Answer address items) = nat_le (all_replies scene + replies_of items) most_replies
 is_within scene (say.Urb name device address options) =
-    nat_le (len_in options) 16384 && nat_le (again_in options) 63 && nat_lt (length scene.urbs) 256
-is_within scene (say.Thread name) = nat_lt (length scene.threads) 16
-is_within scene (say.Submit urb setup bytes) = has_call_left scene && nat_le (given_len bytes) 16384
-is_within scene (say.OnUrb call urb) = has_call_left scene && is_low urb && (if raises call then nat_lt (held_now scene urb) 100 else true)
+    nat_le (len_in options) most_buffer && nat_le (again_in options) most_again && nat_lt (length scene.urbs) most_urbs
+is_within scene (say.Thread name) = nat_lt (length scene.threads) most_threads
+is_within scene (say.Submit urb setup bytes) = has_call_left scene && nat_le (given_len bytes) most_buffer
+is_within scene (say.OnUrb call urb) = has_call_left scene && is_low urb && (if raises call then nat_lt (held_now scene urb) most_rejects else true)
 is_within scene (say.Alone call) = has_call_left scene
-is_within scene (say.OnInterface call device interface) = has_call_left scene && nat_le interface 255 && carries_within call
+is_within scene (say.OnInterface call device interface) = has_call_left scene && nat_le interface most_interface && carries_within call
 
 -- a reject that is withdrawn is one that this script holds
 abbrev pub holds_reject : Scene → Statement → Bool

@@ -1,5 +1,6 @@
 -- What holds of every scene that is read, beyond its text: numbers are those of things that are there, names are
 -- unique, sizes and counts are within their limits, and no script withdraws a reject that it does not hold.
+use Rattle.usb_types.specs.Limits.{most_again, most_break, most_buffer, most_calls, most_config, most_desc, most_devices, most_id, most_interface, most_interval, most_packet, most_rejects, most_replies, most_threads, most_times, most_urbs}
 use Rattle.std.specs.Prelude.{ℕ, ◌≡◌, ◌≢◌, ◌-◌, ◌<◌, ◌≤◌, ◌^◌, ◌⊎◌, ◌==◌, ◌&&◌, Bool, true, false, if◌then◌else◌, List, [], ◌∷◌, ◌++◌, length, slice_get, slice_index, sum_by, codes, Option, Some, None}
 use Rattle.std.specs.List.{All, list_any}
 use Rattle.std.specs.Str.{bytes_eq}
@@ -30,12 +31,12 @@ pub record IsEnd (d : ℕ) (shape : Shape) : Type 0 where
   pub device : shape.device ≡ d
   pub address : ((0 < shape.address) × (shape.address < 16)) ⊎ ((128 < shape.address) × (shape.address < 144))
   pub kind : (shape.kind ≡ Bulk) ⊎ (shape.kind ≡ Interrupt) ⊎ (shape.kind ≡ Iso)
-  pub most : shape.max ≤ 1024
-  pub interval : shape.interval ≤ 255
+  pub most : shape.max ≤ most_packet
+  pub interval : shape.interval ≤ most_interval
 
 -- a packet has at most 1,024 bytes
 abbrev pub IsShort : What → Type 0
-IsShort (Packet bytes) = length bytes ≤ 1024
+IsShort (Packet bytes) = length bytes ≤ most_packet
 IsShort _ = Unit {0}
 
 -- a reply of an IN address, or of an OUT address
@@ -48,7 +49,7 @@ IsItemOf goes (Packet bytes) = goes ≡ true
 
 pub record IsItem (address : ℕ) (item : Item) : Type 0 where
   pub some : 0 < item.times
-  pub most : item.times ≤ 4096
+  pub most : item.times ≤ most_times
   pub short : IsShort item.what
   -- at 00, where control transfers go both ways, it may be any
   pub kind : address ≢ 0 → IsItemOf (goes_in address) item.what
@@ -84,9 +85,9 @@ pub record HasOwnLines (script : DeviceScript) : Type 0 where
   pub no_packets : is_raw script.kind ≡ false → All (λ (said : Answers). All (IsNoPacketAt said.address) said.items) script.answers
   pub no_id : is_printer script.kind ≡ false → script.id ≡ None
   pub usual_port : is_printer script.kind ≡ false → script.port ≡ 24
-  pub desc : AreGiven 255 script.desc
-  pub config : AreGiven 65535 script.config
-  pub id : AreGiven 65535 script.id
+  pub desc : AreGiven most_desc script.desc
+  pub config : AreGiven most_config script.config
+  pub id : AreGiven most_id script.id
   pub port : script.port < 256
 
 pub record IsDevice (d : ℕ) (device : SceneDevice) : Type 0 where
@@ -108,20 +109,20 @@ HasDrivers (Some device) = is_raw device.script.kind ≡ false
 
 pub record IsUrb (s : Scene) (urb : SceneUrb) : Type 0 where
   pub home : HasEnd urb.address (slice_get s.devices urb.device)
-  pub len : urb.len ≤ 16384
-  pub again : urb.again ≤ 63
+  pub len : urb.len ≤ most_buffer
+  pub again : urb.again ≤ most_again
 
 -- the calls that are built: 1 to 7 on an URB, 2 to 7 on one of a driver, 23 to 30 on an interface, and 8, 21 and 22 on nothing
 abbrev pub IsBuilt : Scene → ℕ → Target → Type 0
 IsBuilt s code (target.Urb u) = (1 ≤ code) × (code ≤ 7) × (u < length s.urbs)
-IsBuilt s code (target.Role d interface r) = (2 ≤ code) × (code ≤ 7) × (interface ≤ 255) × HasDrivers (slice_get s.devices d)
-IsBuilt s code (target.Interface d interface) = (23 ≤ code) × (code ≤ 30) × (interface ≤ 255) × HasDrivers (slice_get s.devices d)
+IsBuilt s code (target.Role d interface r) = (2 ≤ code) × (code ≤ 7) × (interface ≤ most_interface) × HasDrivers (slice_get s.devices d)
+IsBuilt s code (target.Interface d interface) = (23 ≤ code) × (code ≤ 30) × (interface ≤ most_interface) × HasDrivers (slice_get s.devices d)
 IsBuilt s code target.Nothing = (code ≡ 8) ⊎ (code ≡ 21) ⊎ (code ≡ 22)
 IsBuilt s code _ = ⊥
 
 abbrev pub IsBuffer : Option (List ℕ) → Type 0
 IsBuffer None = Unit {0}
-IsBuffer (Some bytes) = length bytes ≤ 16384
+IsBuffer (Some bytes) = length bytes ≤ most_buffer
 
 -- bytes that are there, and so many
 abbrev pub CarriesBytes : ℕ → Option (List ℕ) → Type 0
@@ -131,7 +132,7 @@ CarriesBytes n (Some bytes) = length bytes ≡ n
 -- bytes that are there, and that a buffer holds
 abbrev pub CarriesBuffer : Option (List ℕ) → Type 0
 CarriesBuffer None = ⊥
-CarriesBuffer (Some bytes) = length bytes ≤ 16384
+CarriesBuffer (Some bytes) = length bytes ≤ most_buffer
 
 -- the numbers of a line coding, and no bytes: the rate has four bytes, the others have one (PSTN 1.2 §6.3.11)
 pub record IsCoding (c : Call) : Type 0 where
@@ -144,7 +145,7 @@ pub record IsCoding (c : Call) : Type 0 where
 -- the milliseconds of a break, which have two bytes (PSTN 1.2 §6.3.13), and no bytes
 pub record IsBreak (c : Call) : Type 0 where
   pub alone : c.bytes ≡ None
-  pub ms : slice_index c.numbers 0 ≤ 65535
+  pub ms : slice_index c.numbers 0 ≤ most_break
 
 pub record IsCall (s : Scene) (c : Call) : Type 0 where
   pub line : c.line < 2 ^ 31
@@ -194,10 +195,10 @@ withdrawn urb c = if is_on urb c.target then (if c.code == 5 then 1 else if c.co
 abbrev pub held_on : Target → List Call → ℕ
 held_on urb calls = sum_by (raised urb) calls - sum_by (withdrawn urb) calls
 
--- each call that withdraws finds a reject of its script, and never more than 100 are held
+-- each call that withdraws finds a reject of its script, and never more than `most_rejects` are held
 pub record AreHeld (calls : List Call) : Type 0 where
   pub held : (before : List Call) (c : Call) (behind : List Call) (urb : Target) → calls ≡ before ++ c ∷ behind → withdrawn urb c ≡ 1 → 0 < held_on urb before
-  pub most : (before behind : List Call) (urb : Target) → calls ≡ before ++ behind → held_on urb before ≤ 100
+  pub most : (before behind : List Call) (urb : Target) → calls ≡ before ++ behind → held_on urb before ≤ most_rejects
 
 abbrev pub is_hub_call : ℕ → Bool
 is_hub_call code = if code == 21 then true else if code == 22 then true else false
@@ -230,13 +231,13 @@ abbrev pub HaveOwnNames : {X : Type 0} → (X → List ℕ) → List X → Type 
 HaveOwnNames {X} name xs = (i j : ℕ) (a b : X) → slice_get xs i ≡ Some a → slice_get xs j ≡ Some b → name a ≡ name b → i ≡ j
 
 pub record IsWellFormed (s : Scene) : Type 0 where
-  pub few_devices : length s.devices ≤ 16
-  pub few_urbs : length s.urbs ≤ 256
-  pub few_threads : length s.threads ≤ 16
+  pub few_devices : length s.devices ≤ most_devices
+  pub few_urbs : length s.urbs ≤ most_urbs
+  pub few_threads : length s.threads ≤ most_threads
   -- after repeats, in the scripts of all devices
-  pub few_replies : all_replies s ≤ 65536
+  pub few_replies : all_replies s ≤ most_replies
   -- in the scripts of all threads
-  pub few_calls : all_calls s ≤ 4096
+  pub few_calls : all_calls s ≤ most_calls
   pub devices : (d : ℕ) (device : SceneDevice) → slice_get s.devices d ≡ Some device → IsDevice d device
   pub urbs : All (IsUrb s) s.urbs
   pub threads : All (IsThread s) s.threads

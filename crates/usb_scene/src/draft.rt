@@ -1,4 +1,5 @@
 //! A scene that grows by its lines, within the limits of the whole.
+ghost use Rattle.usb_types.specs.Limits.{most_rejects};
 ghost use Rattle.std.specs.Prelude.{◌≡◌, nat_lt, if◌then◌else◌, is_some, IfOk, IsTrue, None, true};
 ghost use Rattle.usb_statement.specs.Statements.{keyword_said};
 ghost use Rattle.usb_scene.specs.Rules.{may_stand, raises, urb_number, named_urb, named_target, urb_target, names_stand, is_new, held_now, is_low, is_within, holds_reject, statement_cause};
@@ -21,23 +22,11 @@ use crate::scene::{Scene, Target};
 use std::alloc::Global;
 use std::marker::Model;
 use usb_statement::{Statement, UrbCall, UrbName};
+use usb_types::limits::{
+    MOST_CALLS, MOST_DEVICES, MOST_INTERVAL, MOST_PACKET, MOST_REJECTS, MOST_REPLIES, MOST_THREADS,
+    MOST_URBS,
+};
 use usb_types::{List, Memory};
-
-const MOST_DEVICES: usize = 16;
-
-const MOST_URBS: usize = 256;
-
-const MOST_THREADS: usize = 16;
-
-const MOST_REPLIES: u32 = 65536;
-
-const MOST_CALLS: u32 = 4096;
-
-const MOST_INTERVAL: u32 = 255;
-// Of one thread on one URB.
-const MOST_REJECTS: u32 = 100;
-// In bytes.
-const MOST_PACKET: u32 = 1024;
 
 /// The scene so far. Contracts see the scene, and whether the device whose lines are being read has its `port` line.
 #[derive(Drop)]
@@ -222,7 +211,7 @@ impl Draft {
 
     fn may_raise(&self, call: UrbCall, urb: &UrbName) -> bool
         requires { IsTrue (is_low urb.now) }
-        ensures { result ≡ (if raises call then nat_lt (held_now self.now.scene urb.now) 100 else true) }
+        ensures { result ≡ (if raises call then nat_lt (held_now self.now.scene urb.now) most_rejects else true) }
     {
         if raises(call) {
             self.held_now(urb) < MOST_REJECTS

@@ -1,4 +1,5 @@
 //! What a line adds to the scene.
+ghost use Rattle.usb_types.specs.Limits.{most_devices, most_interval, most_packet};
 ghost use Rattle.std.specs.Prelude.{◌≡◌, ◌≤◌, length, IsTrue, OnOk};
 ghost use Rattle.std.specs.List.{list_any};
 ghost use Rattle.usb_scene.specs.Rules.{is_within, is_short, len_in, again_in};
@@ -33,9 +34,9 @@ fn bare_device(alloc: Global, name: Buf, kind: Kind) -> SceneDevice
 }
 
 fn end_said(scene: &Scene, address: u8, kind: EndKind, size: u32, interval: u32) -> Shape
-    requires devices { length scene.now.devices ≤ 16 }
-    requires size { size ≤ 1024 }
-    requires interval { interval ≤ 255 }
+    requires devices { length scene.now.devices ≤ most_devices }
+    requires size { size ≤ most_packet }
+    requires interval { interval ≤ most_interval }
     ensures { result ≡ end_said scene.now address kind size interval }
 {
     Shape {
@@ -67,9 +68,9 @@ fn add_end(
     size: u32,
     interval: u32,
 ) -> Result<(), Memory>
-    requires devices { length scene.old.devices ≤ 16 }
-    requires size { size ≤ 1024 }
-    requires interval { interval ≤ 255 }
+    requires devices { length scene.old.devices ≤ most_devices }
+    requires size { size ≤ most_packet }
+    requires interval { interval ≤ most_interval }
     ensures { OnOk result (scene.new ≡ last_changed (with_end (end_said scene.old address kind size interval)) scene.old) }
 {
     let end = end_said(scene, address, kind, size, interval);
@@ -177,7 +178,7 @@ fn has_short(options: &[UrbOption]) -> bool
 }
 
 fn urb_said(scene: &Scene, name: Buf, device: &[u8], address: u8, options: &[UrbOption]) -> SceneUrb
-    requires { length scene.now.devices ≤ 16 }
+    requires { length scene.now.devices ≤ most_devices }
     ensures { result ≡ urb_said scene.now name device.now address options.now }
 {
     SceneUrb {
@@ -204,7 +205,7 @@ fn add_call(threads: &mut List<SceneThread>, call: Call) -> Result<(), Memory>
 }
 
 fn declare(scene: &mut Scene, alloc: Global, statement: Statement) -> Result<(), Memory>
-    requires devices { length scene.old.devices ≤ 16 }
+    requires devices { length scene.old.devices ≤ most_devices }
     requires within { IsTrue (is_within scene.old statement) }
     ensures { OnOk result (scene.new ≡ scene_declares scene.old statement) }
 {
@@ -246,7 +247,7 @@ pub fn add(
     statement: Statement,
     target: Target,
 ) -> Result<(), Memory>
-    requires devices { length scene.old.devices ≤ 16 }
+    requires devices { length scene.old.devices ≤ most_devices }
     requires within { IsTrue (is_within scene.old statement) }
     requires called { target ≡ called_target scene.old statement }
     ensures { OnOk result (scene.new ≡ scene_with scene.old line statement) }

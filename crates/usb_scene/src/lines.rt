@@ -8,7 +8,7 @@ ghost use Rattle.usb_scene.specs.Split.{numbered, line_added, split_of};
 use crate::cause::Cause;
 use crate::read::{LineFault, SceneFault};
 use std::alloc::Global;
-use usb_text::{are_plain, copy, next_line, next_word, without_return};
+use usb_text::{are_plain, next_line, next_word, without_return};
 use usb_types::{Buf, List, Memory};
 
 /// The words of a line, with its number from 1.
@@ -24,7 +24,7 @@ fn words_of(alloc: Global, line: &[u8]) -> Result<List<Buf>, Memory>
     let mut found = List::of(Vec::new(alloc));
     let mut rest = line;
     while let Some((word, behind)) = next_word(rest) {
-        found.push(copy(alloc, word)?)?;
+        found.push(Buf::copy(alloc, word)?)?;
         rest = behind;
     }
     Ok(found)

@@ -1,4 +1,5 @@
 //! How many rejects the script that is being read holds on each URB.
+ghost use Rattle.usb_types.specs.Limits.{most_rejects};
 ghost use Rattle.std.specs.Prelude.{◌≡◌, ◌≤◌, OnOk};
 ghost use Rattle.usb_scene.specs.Rules.{raises, withdraws};
 ghost use Rattle.usb_scene.specs.Counts.{next_count, count_in, changed};
@@ -31,7 +32,7 @@ pub fn withdraws(call: UrbCall) -> bool
 }
 
 fn next_count(call: UrbCall, count: u32) -> u32
-    requires { count ≤ 100 }
+    requires { count ≤ most_rejects }
     ensures { result ≡ next_count call count }
 {
     if raises(call) {
@@ -71,7 +72,7 @@ impl Rejects {
 
     /// Counts what a call on an URB raises or withdraws.
     pub fn change(&mut self, call: UrbCall, urb: Target) -> Result<(), Memory>
-        requires { count_in self.old.counts urb ≤ 100 }
+        requires { count_in self.old.counts urb ≤ most_rejects }
         ensures { OnOk result ((other : Target) → count_in self.new.counts other ≡ changed call urb (count_in self.old.counts) other) }
     {
         let next = next_count(call, self.held(urb));

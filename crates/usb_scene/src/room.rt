@@ -1,4 +1,5 @@
 //! What is left of the limits after a line, and what is counted and found there.
+ghost use Rattle.usb_types.specs.Limits.{most_again, most_buffer, most_interface, most_rejects, most_urbs};
 ghost use Rattle.std.specs.Prelude.{◌≡◌, ℕ, List, ◌-◌, ◌≤◌, ◌&&◌, nat_le, if◌then◌else◌, IfOk, Some, None, length};
 ghost use Rattle.usb_scene.specs.WellFormed.{replies_of};
 ghost use Rattle.usb_scene.specs.Rules.{most_of, is_low, len_in, again_in, given_len, carries_within};
@@ -13,26 +14,16 @@ use crate::rejects::Rejects;
 use crate::scene::{Scene, Target};
 use std::alloc::Global;
 use usb_statement::{DeviceBytes, InterfaceCall, Statement, UrbName, UrbOption};
+use usb_types::limits::{
+    MOST_AGAIN, MOST_BREAK, MOST_BUFFER, MOST_CONFIG, MOST_DESC, MOST_ID, MOST_INTERFACE,
+};
 use usb_types::{Buf, Memory};
 use usb_xfer::Item;
 
-const MOST_AGAIN: u32 = 63;
-// In bytes.
-const MOST_BUFFER: u32 = 16384;
-
-const MOST_DESC: usize = 255;
-
-const MOST_CONFIG: usize = 65535;
-
-const MOST_ID: usize = 65535;
-
-const MOST_INTERFACE: u32 = 255;
 // Two stop bits, and a parity bit that is always 0 (PSTN 1.2 §6.3.11).
 const MOST_STOP: u32 = 2;
 
 const MOST_PARITY: u32 = 4;
-// In milliseconds (PSTN 1.2 §6.3.13).
-const MOST_BREAK: u32 = 65535;
 
 /// How many more replies may come after those of these items.
 pub fn room_behind(items: &[Item], room: u32) -> Option<u32>
@@ -84,7 +75,7 @@ pub fn most_of(which: DeviceBytes) -> usize
 
 /// Whether the number of an interface is a byte.
 pub fn is_interface(number: u32) -> bool
-    ensures { result ≡ nat_le number 255 }
+    ensures { result ≡ nat_le number most_interface }
 {
     number <= MOST_INTERFACE
 }
@@ -101,7 +92,7 @@ pub fn is_low(urb: &UrbName) -> bool
 
 /// Whether a buffer holds the bytes that are given.
 pub fn is_buffer(bytes: &Option<Buf>) -> bool
-    ensures { result ≡ nat_le (given_len bytes.now) 16384 }
+    ensures { result ≡ nat_le (given_len bytes.now) most_buffer }
 {
     match bytes {
         Some(bytes) => bytes.bytes().len() <= MOST_BUFFER as usize,
@@ -111,7 +102,7 @@ pub fn is_buffer(bytes: &Option<Buf>) -> bool
 
 /// Whether the numbers that the options give are within their limits.
 pub fn are_low(options: &[UrbOption]) -> bool
-    ensures { result ≡ (nat_le (len_in options.now) 16384 && nat_le (again_in options.now) 63) }
+    ensures { result ≡ (nat_le (len_in options.now) most_buffer && nat_le (again_in options.now) most_again) }
 {
     len_in(options) <= MOST_BUFFER && again_in(options) <= MOST_AGAIN
 }
@@ -136,7 +127,7 @@ pub fn rejects_behind(
     statement: &Statement,
     urb: Target,
 ) -> Result<Rejects, Memory>
-    requires few { (u : Target) → count_in rejects.counts u ≤ 100 }
+    requires few { (u : Target) → count_in rejects.counts u ≤ most_rejects }
     ensures { IfOk result (λ next. (u : Target) → count_in next.counts u ≡ counts_behind statement.now urb (count_in rejects.counts) u) }
 {
     match statement {
@@ -157,7 +148,7 @@ pub fn names_behind(
     names: Names,
     statement: &Statement,
 ) -> Result<Names, Memory>
-    requires { length scene.now.urbs ≤ 256 }
+    requires { length scene.now.urbs ≤ most_urbs }
     ensures { IfOk result (λ next. (other : List ℕ) → number_in next.numbers other ≡ found_with scene.now statement.now (number_in names.numbers) other) }
 {
     match statement {

@@ -1,4 +1,5 @@
 //! Where a line may stand, what is declared before it, and which thread may make calls of the hub.
+ghost use Rattle.usb_types.specs.Limits.{most_devices, most_interface};
 ghost use Rattle.std.specs.Prelude.{◌≡◌, ◌<◌, ◌≤◌, ◌==◌, ◌&&◌, ◌||◌, not, is_some, codes, nat_le, count_by, length, IfSome};
 ghost use Rattle.std.specs.List.{list_all, list_any};
 ghost use Rattle.std.specs.Str.{bytes_eq};
@@ -206,8 +207,8 @@ pub fn driven_number(scene: &Scene, name: &[u8]) -> Option<usize>
 
 /// The interface that a line calls, where drivers have its device.
 pub fn interface_target(scene: &Scene, device: &[u8], interface: u32) -> Target
-    requires devices { length scene.now.devices ≤ 16 }
-    requires low { interface ≤ 255 }
+    requires devices { length scene.now.devices ≤ most_devices }
+    requires low { interface ≤ most_interface }
     ensures { result ≡ interface_target scene.now device.now interface }
 {
     match driven_number(scene, device) {

@@ -15,7 +15,8 @@ use Rattle.usb_statement.specs.UrbNames.{name_of}
 use Rattle.usb_statement.specs.Setups.{setup_first, behind_setup}
 use Rattle.usb_statement.specs.Statements.{device_kind_of, kind_of, sent_of, is_empty, answer_with, keyword_of, keyword_said, statement_of}
 use Rattle.usb_statement.specs.Sayable.{IsNumber, IsCodingLine, IsCarried, IsSayable}
-use Rattle.usb_statement.specs.Printed.{keyword_text, device_kind_text, kind_text, item_text, option_words, setup_words, sent_words, carried_words, words_said}
+use Rattle.usb_statement.specs.Printed.{keyword_text, item_text, option_words, setup_words, sent_words, carried_words, words_said}
+use Rattle.usb_statement.specs.Words.{device_kind_text, kind_text}
 use Rattle.usb_statement.specs.declared.statement.Statement.{Statement}
 use Rattle.usb_statement.specs.declared.statement.Statement.TheVariants as say
 use Rattle.usb_statement.specs.declared.keyword.Keyword.{Keyword}

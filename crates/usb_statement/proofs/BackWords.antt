@@ -31,7 +31,8 @@ use Rattle.usb_statement.specs.Options.{number_option, options_of}
 use Rattle.usb_statement.specs.UrbNames.{name_of, role_of, role_parts, driver_parts, urb_name_of}
 use Rattle.usb_statement.specs.Statements.{device_kind_of, end_of, kind_of, sent_of}
 use Rattle.usb_statement.specs.Sayable.{IsEndAddress, is_end_kind, IsPacket, IsSayableItem, IsSayableOption, IsUrbName, IsKept, IsSent}
-use Rattle.usb_statement.specs.Printed.{device_kind_text, kind_text, role_text, what_text, item_text, option_words, urb_text, sent_words}
+use Rattle.usb_statement.specs.Printed.{role_text, what_text, item_text, option_words, urb_text, sent_words}
+use Rattle.usb_statement.specs.Words.{device_kind_text, kind_text}
 use Rattle.usb_statement.specs.declared.options.UrbOption.{UrbOption}
 use Rattle.usb_statement.specs.declared.options.UrbOption.TheVariants.{Len, Again, Short}
 use Rattle.usb_statement.specs.declared.urb_name.UrbName.{UrbName}

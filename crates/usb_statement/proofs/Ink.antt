@@ -27,7 +27,8 @@ use Rattle.usb_xfer.specs.declared.script.Kind.{Kind}
 use Rattle.usb_xfer.specs.declared.script.Kind.TheVariants.{Raw, Keyboard, Acm, Printer}
 use Rattle.usb_statement.specs.Statements.{keyword_said}
 use Rattle.usb_statement.specs.Sayable.{IsSayable, IsPacket, IsSayableItem, IsSayableOption, IsUrbName, IsSetup, IsSent, IsCarried}
-use Rattle.usb_statement.specs.Printed.{device_bytes_text, urb_call_text, bare_call_text, interface_word_text, keyword_text, device_kind_text, kind_text, role_text, what_text, item_text, option_words, urb_text, setup_words, sent_words, carried_words, words_said, line_said}
+use Rattle.usb_statement.specs.Printed.{keyword_text, role_text, what_text, item_text, option_words, urb_text, setup_words, sent_words, carried_words, words_said, line_said}
+use Rattle.usb_statement.specs.Words.{device_bytes_text, urb_call_text, bare_call_text, interface_word_text, device_kind_text, kind_text}
 use Rattle.usb_statement.specs.declared.options.UrbOption.{UrbOption}
 use Rattle.usb_statement.specs.declared.options.UrbOption.TheVariants.{Len, Again, Short}
 use Rattle.usb_statement.specs.declared.urb_name.UrbName.{UrbName}

@@ -1,4 +1,5 @@
 -- ITEM: what a device answers, as it is read from an `answer` line.
+use Rattle.usb_types.specs.Limits.{most_times}
 use Rattle.std.specs.Prelude.{ℕ, ◌==◌, ◌&&◌, ◌||◌, nat_le, if◌then◌else◌, List, [], ◌∷◌, Option, Some, None, codes, Bool, not, true}
 use Rattle.std.specs.Option.{option_map}
 use Rattle.std.specs.List.{list_all}
@@ -24,7 +25,7 @@ what_of text =
 abbrev pub times_of : List ℕ → Option ℕ
 times_of text = do
   times ← number_of text
-  if nat_le 1 times && nat_le times 4096 then Some times else None
+  if nat_le 1 times && nat_le times most_times then Some times else None
 
 -- a reply that comes once, or after `NUM*` so many times
 abbrev pub item_parts : List ℕ → Option (List ℕ × List ℕ) → Option Item

@@ -1,4 +1,5 @@
 -- The bytes of words of data, joined.
+use Rattle.usb_types.specs.Limits.{most_kept}
 use Rattle.std.specs.Prelude.{ℕ, List, [], ◌∷◌, ◌++◌, take, Option, Some, None}
 use Rattle.std.specs.Option.{option_map}
 use Rattle.usb_text.specs.Bytes.{data_of}
@@ -14,7 +15,7 @@ joined_data (text ∷ texts) = do
 
 -- the bytes of DATA.., of which no more is kept than one above the most that any line may have
 abbrev pub kept_data : List (List ℕ) → Option (List ℕ)
-kept_data texts = option_map (λ bytes. take 65536 bytes) (joined_data texts)
+kept_data texts = option_map (λ bytes. take most_kept bytes) (joined_data texts)
 
 -- the same, where there is at least one word
 abbrev pub some_data : List (List ℕ) → Option (List ℕ)

@@ -8,3 +8,4 @@ pub mod Sayable
 pub mod Setups
 pub mod Statements
 pub mod UrbNames
+pub mod Words

@@ -3,16 +3,13 @@ use Rattle.std.specs.Prelude.{ℕ, List, [], ◌∷◌, ◌++◌, map, Option, S
 use Rattle.std.specs.List.{flat_map}
 use Rattle.usb_types.specs.declared.urb.Role.{Role}
 use Rattle.usb_types.specs.declared.urb.Role.TheVariants as role
-use Rattle.usb_machine.specs.declared.layout.EndKind.{EndKind}
-use Rattle.usb_machine.specs.declared.layout.EndKind.TheVariants.{Control, Bulk, Interrupt, Iso}
 use Rattle.usb_text.specs.Print.{hex_pair, hex_text}
 use Rattle.usb_text.specs.Written.{packet_text}
 use Rattle.usb_xfer.specs.declared.script.What.{What}
 use Rattle.usb_xfer.specs.declared.script.What.TheVariants.{Ack, Nak, Stall, Error, Packet}
 use Rattle.usb_xfer.specs.declared.script.Item.{Item}
-use Rattle.usb_xfer.specs.declared.script.Kind.{Kind}
-use Rattle.usb_xfer.specs.declared.script.Kind.TheVariants.{Raw, Keyboard, Acm, Printer}
 use Rattle.usb_statement.specs.Statements.{keyword_said}
+use Rattle.usb_statement.specs.Words.{device_bytes_text, urb_call_text, bare_call_text, interface_word_text, device_kind_text, kind_text}
 use Rattle.usb_statement.specs.declared.options.UrbOption.{UrbOption}
 use Rattle.usb_statement.specs.declared.options.UrbOption.TheVariants.{Len, Again, Short}
 use Rattle.usb_statement.specs.declared.urb_name.UrbName.{UrbName}
@@ -21,44 +18,8 @@ use Rattle.usb_statement.specs.declared.statement.Statement.{Statement}
 use Rattle.usb_statement.specs.declared.statement.Statement.TheVariants as say
 use Rattle.usb_statement.specs.declared.keyword.Keyword.{Keyword}
 use Rattle.usb_statement.specs.declared.keyword.Keyword.TheVariants as word
-use Rattle.usb_statement.specs.declared.keyword.DeviceBytes.{DeviceBytes}
-use Rattle.usb_statement.specs.declared.keyword.DeviceBytes.TheVariants.{Desc, Config, Id}
-use Rattle.usb_statement.specs.declared.keyword.UrbCall.{UrbCall}
-use Rattle.usb_statement.specs.declared.keyword.UrbCall.TheVariants.{Unlink, Kill, Poison, Unpoison, Block, Unblock}
-use Rattle.usb_statement.specs.declared.keyword.BareCall.{BareCall}
-use Rattle.usb_statement.specs.declared.keyword.BareCall.TheVariants.{Serve, Down, Up}
-use Rattle.usb_statement.specs.declared.keyword.InterfaceWord.{InterfaceWord}
-use Rattle.usb_statement.specs.declared.keyword.InterfaceWord.TheVariants as called
 use Rattle.usb_statement.specs.declared.interface_call.InterfaceCall.{InterfaceCall}
 use Rattle.usb_statement.specs.declared.interface_call.InterfaceCall.TheVariants as made
-
-abbrev pub device_bytes_text : DeviceBytes → List ℕ
-device_bytes_text Desc = codes "desc"
-device_bytes_text Config = codes "config"
-device_bytes_text Id = codes "id"
-
-abbrev pub urb_call_text : UrbCall → List ℕ
-urb_call_text Unlink = codes "unlink"
-urb_call_text Kill = codes "kill"
-urb_call_text Poison = codes "poison"
-urb_call_text Unpoison = codes "unpoison"
-urb_call_text Block = codes "block"
-urb_call_text Unblock = codes "unblock"
-
-abbrev pub bare_call_text : BareCall → List ℕ
-bare_call_text Serve = codes "serve"
-bare_call_text Down = codes "down"
-bare_call_text Up = codes "up"
-
-abbrev pub interface_word_text : InterfaceWord → List ℕ
-interface_word_text called.Led = codes "led"
-interface_word_text called.Write = codes "write"
-interface_word_text called.Coding = codes "coding"
-interface_word_text called.Control = codes "control"
-interface_word_text called.SendBreak = codes "sendbreak"
-interface_word_text called.Print = codes "print"
-interface_word_text called.Status = codes "status"
-interface_word_text called.SoftReset = codes "softreset"
 
 -- the first word
 abbrev pub keyword_text : Keyword → List ℕ
@@ -73,20 +34,6 @@ keyword_text word.Submit = codes "submit"
 keyword_text (word.OnUrb call) = urb_call_text call
 keyword_text (word.Alone call) = bare_call_text call
 keyword_text (word.OnInterface which) = interface_word_text which
-
--- KIND
-abbrev pub device_kind_text : Kind → List ℕ
-device_kind_text Raw = codes "raw"
-device_kind_text Keyboard = codes "keyboard"
-device_kind_text Acm = codes "acm"
-device_kind_text Printer = codes "printer"
-
--- TYPE; the endpoint 00 has no line
-abbrev pub kind_text : EndKind → List ℕ
-kind_text Control = codes "-"
-kind_text Bulk = codes "bulk"
-kind_text Interrupt = codes "int"
-kind_text Iso = codes "iso"
 
 abbrev pub role_text : Role → List ℕ
 role_text role.In = codes "in"

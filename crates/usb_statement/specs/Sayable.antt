@@ -1,4 +1,5 @@
 -- What holds of every statement that is read from a line.
+use Rattle.usb_types.specs.Limits.{most_kept, most_packet, most_times}
 use Rattle.std.specs.Prelude.{ℕ, ◌≡◌, ◌<◌, ◌≤◌, ◌^◌, ◌==◌, Bool, true, false, List, length, Option, Some, None}
 use Rattle.std.specs.List.{All}
 use Rattle.usb_machine.specs.declared.layout.EndKind.{EndKind}
@@ -38,12 +39,12 @@ is_end_kind Iso = true
 
 -- bytes of a packet, at most 1,024
 abbrev pub IsPacket : What → Type 0
-IsPacket (Packet bytes) = AreBytes bytes × (length bytes ≤ 1024)
+IsPacket (Packet bytes) = AreBytes bytes × (length bytes ≤ most_packet)
 IsPacket _ = Unit {0}
 
 pub record IsSayableItem (item : Item) : Type 0 where
   pub some : 1 ≤ item.times
-  pub most : item.times ≤ 4096
+  pub most : item.times ≤ most_times
   pub packet : IsPacket item.what
 
 abbrev pub IsSayableOption : UrbOption → Type 0
@@ -62,7 +63,7 @@ IsSetup (Some bytes) = AreBytes bytes × (length bytes ≡ 8)
 
 -- bytes of DATA.., of which no more is kept than one above the most that any line may have
 abbrev pub IsKept : List ℕ → Type 0
-IsKept bytes = AreBytes bytes × (length bytes ≤ 65536)
+IsKept bytes = AreBytes bytes × (length bytes ≤ most_kept)
 
 -- bytes to send
 abbrev pub IsSent : Option (List ℕ) → Type 0

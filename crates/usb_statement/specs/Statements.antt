@@ -15,6 +15,7 @@ use Rattle.usb_statement.specs.Kept.{kept_data}
 use Rattle.usb_statement.specs.Options.{options_of}
 use Rattle.usb_statement.specs.Setups.{setup_first, behind_setup}
 use Rattle.usb_statement.specs.UrbNames.{name_of, urb_name_of}
+use Rattle.usb_statement.specs.Words.{named, device_bytes_text, urb_call_text, bare_call_text, interface_word_text, device_kind_text, kind_text}
 use Rattle.usb_statement.specs.declared.statement.Statement.{Statement}
 use Rattle.usb_statement.specs.declared.statement.Statement.TheVariants as say
 use Rattle.usb_statement.specs.declared.keyword.Keyword.{Keyword}
@@ -30,43 +31,20 @@ use Rattle.usb_statement.specs.declared.keyword.InterfaceWord.TheVariants as cal
 
 -- bytes that a line gives its device
 abbrev pub device_bytes_of : List ℕ → Option DeviceBytes
-device_bytes_of text =
-    if bytes_eq text (codes "desc") then Some Desc
-    else if bytes_eq text (codes "config") then Some Config
-    else if bytes_eq text (codes "id") then Some Id
-    else None
+device_bytes_of = named device_bytes_text (Desc ∷ Config ∷ Id ∷ [])
 
 -- a call on an URB alone
 abbrev pub urb_call_of : List ℕ → Option UrbCall
-urb_call_of text =
-    if bytes_eq text (codes "unlink") then Some Unlink
-    else if bytes_eq text (codes "kill") then Some Kill
-    else if bytes_eq text (codes "poison") then Some Poison
-    else if bytes_eq text (codes "unpoison") then Some Unpoison
-    else if bytes_eq text (codes "block") then Some Block
-    else if bytes_eq text (codes "unblock") then Some Unblock
-    else None
+urb_call_of = named urb_call_text (Unlink ∷ Kill ∷ Poison ∷ Unpoison ∷ Block ∷ Unblock ∷ [])
 
 -- a call on nothing
 abbrev pub bare_call_of : List ℕ → Option BareCall
-bare_call_of text =
-    if bytes_eq text (codes "serve") then Some Serve
-    else if bytes_eq text (codes "down") then Some Down
-    else if bytes_eq text (codes "up") then Some Up
-    else None
+bare_call_of = named bare_call_text (Serve ∷ Down ∷ Up ∷ [])
 
 -- a call on an interface that a driver has
 abbrev pub interface_word_of : List ℕ → Option InterfaceWord
-interface_word_of text =
-    if bytes_eq text (codes "led") then Some called.Led
-    else if bytes_eq text (codes "write") then Some called.Write
-    else if bytes_eq text (codes "coding") then Some called.Coding
-    else if bytes_eq text (codes "control") then Some called.Control
-    else if bytes_eq text (codes "sendbreak") then Some called.SendBreak
-    else if bytes_eq text (codes "print") then Some called.Print
-    else if bytes_eq text (codes "status") then Some called.Status
-    else if bytes_eq text (codes "softreset") then Some called.SoftReset
-    else None
+interface_word_of = named interface_word_text
+    (called.Led ∷ called.Write ∷ called.Coding ∷ called.Control ∷ called.SendBreak ∷ called.Print ∷ called.Status ∷ called.SoftReset ∷ [])
 
 -- the word of a device's bytes or of a call
 abbrev pub later_keyword : Option DeviceBytes → Option UrbCall → Option BareCall → Option InterfaceWord → Option Keyword
@@ -94,12 +72,7 @@ is_empty (x ∷ xs) = false
 
 -- KIND
 abbrev pub device_kind_of : List ℕ → Option Kind
-device_kind_of text =
-    if bytes_eq text (codes "raw") then Some Raw
-    else if bytes_eq text (codes "keyboard") then Some Keyboard
-    else if bytes_eq text (codes "acm") then Some Acm
-    else if bytes_eq text (codes "printer") then Some Printer
-    else None
+device_kind_of = named device_kind_text (Raw ∷ Keyboard ∷ Acm ∷ Printer ∷ [])
 
 -- the address of an endpoint other than 00
 abbrev pub end_of : List ℕ → Option ℕ
@@ -109,11 +82,7 @@ end_of text = do
 
 -- TYPE
 abbrev pub kind_of : List ℕ → Option EndKind
-kind_of text =
-    if bytes_eq text (codes "bulk") then Some Bulk
-    else if bytes_eq text (codes "int") then Some Interrupt
-    else if bytes_eq text (codes "iso") then Some Iso
-    else None
+kind_of = named kind_text (Bulk ∷ Interrupt ∷ Iso ∷ [])
 
 -- what a submit sends, if anything
 abbrev pub sent_of : List (List ℕ) → Option (Option (List ℕ))

@@ -6,6 +6,7 @@ ghost use Rattle.usb_statement.specs.Items.{what_of, times_of, item_of, items_of
 
 use std::alloc::Global;
 use usb_text::{cut, is_text, next_word, number, payload};
+use usb_types::limits::MOST_TIMES;
 use usb_types::{List, Memory};
 use usb_xfer::{Item, What, is_in};
 
@@ -29,7 +30,7 @@ fn times(word: &[u8]) -> Option<u32>
     ensures { result ≡ times_of word.now }
 {
     let times = number(word)?;
-    if 1 <= times && times <= 4096 {
+    if 1 <= times && times <= MOST_TIMES {
         Some(times)
     } else {
         None

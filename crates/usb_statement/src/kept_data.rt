@@ -1,4 +1,5 @@
 //! Bytes that a line gives in words of data.
+ghost use Rattle.usb_types.specs.Limits.{most_kept};
 ghost use Rattle.std.specs.Prelude.{◌≡◌, ◌≤◌, ◌++◌, length, take, IfOk, OnOk};
 ghost use Rattle.usb_text.specs.Words.{words};
 ghost use Rattle.usb_statement.specs.Kept.{kept_data, some_data};
@@ -6,16 +7,14 @@ ghost use Rattle.usb_statement.specs.Statements.{sent_of};
 
 use std::alloc::Global;
 use usb_text::{data_bytes, next_word};
+use usb_types::limits::MOST_KEPT;
 use usb_types::{Buf, Memory};
-
-// In bytes: one above the most that any line may have.
-const MOST_KEPT: usize = 65536;
 
 // Adds bytes as far as the most that is kept.
 #[tactic(auto, using(crate::proofs::Kept::take_onto))]
 fn keep(all: &mut Buf, bytes: &[u8]) -> Result<(), Memory>
-    requires { length all.now ≤ 65536 }
-    ensures { OnOk result (all.new ≡ take 65536 (all.old ++ bytes.now)) }
+    requires { length all.now ≤ most_kept }
+    ensures { OnOk result (all.new ≡ take most_kept (all.old ++ bytes.now)) }
 {
     let room = (MOST_KEPT - all.bytes().len()).min(bytes.len());
     all.append(&bytes[..room])

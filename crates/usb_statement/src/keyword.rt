@@ -1,7 +1,7 @@
 //! The first word of a line.
 ghost use Rattle.std.specs.Prelude.{◌≡◌};
 ghost use Rattle.usb_statement.specs.Statements.{device_bytes_of, urb_call_of, bare_call_of, interface_word_of, later_keyword, keyword_of};
-ghost use Rattle.usb_statement.specs.Printed.{urb_call_text, bare_call_text, interface_word_text};
+ghost use Rattle.usb_statement.specs.Words.{urb_call_text, bare_call_text, interface_word_text};
 
 use usb_text::is_text;
 

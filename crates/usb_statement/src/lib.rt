@@ -16,6 +16,6 @@ pub use keyword::{BareCall, DeviceBytes, InterfaceWord, Keyword, UrbCall, read_k
 pub use options::UrbOption;
 pub use statement::{Statement, read_statement};
 pub use statement_laws::{
-    a_read_line_can_be_printed, a_printed_line_is_words, keyword_reads_back, statement_reads_back,
+    a_printed_line_is_words, a_read_line_can_be_printed, keyword_reads_back, statement_reads_back,
 };
 pub use urb_name::UrbName;

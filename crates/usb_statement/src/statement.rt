@@ -14,7 +14,7 @@ use crate::setup_packet::split_setup;
 use crate::urb_name::{UrbName, read_urb_name};
 use std::alloc::Global;
 use usb_machine::EndKind;
-use usb_text::{address, byte, copy, is_name, is_text, next_word, number};
+use usb_text::{address, byte, is_name, is_text, next_word, number};
 use usb_types::{Buf, List, Memory};
 use usb_xfer::{Item, Kind};
 
@@ -100,7 +100,7 @@ fn device_of(alloc: Global, line: &[u8]) -> Result<Option<Statement>, Memory>
     }
     match device_kind(kind) {
         Some(kind) => {
-            let name = copy(alloc, name)?;
+            let name = Buf::copy(alloc, name)?;
             Ok(Some(Statement::Device { name, kind }))
         }
         None => Ok(None),
@@ -196,8 +196,8 @@ fn urb(
     }
     match (address(place), read_options(alloc, options)?) {
         (Some(address), Some(options)) => {
-            let name = copy(alloc, name)?;
-            let device = copy(alloc, device)?;
+            let name = Buf::copy(alloc, name)?;
+            let device = Buf::copy(alloc, device)?;
             Ok(Some(Statement::Urb {
                 name,
                 device,
@@ -229,7 +229,7 @@ fn thread_of(alloc: Global, line: &[u8]) -> Result<Option<Statement>, Memory>
 {
     match next_word(line) {
         Some((name, line)) if next_word(line).is_none() && is_name(name) => {
-            let name = copy(alloc, name)?;
+            let name = Buf::copy(alloc, name)?;
             Ok(Some(Statement::Thread { name }))
         }
         _ => Ok(None),
@@ -310,7 +310,7 @@ fn on_interface(
     }
     match (number(interface), read_interface_call(alloc, which, line)?) {
         (Some(interface), Some(call)) => {
-            let device = copy(alloc, device)?;
+            let device = Buf::copy(alloc, device)?;
             Ok(Some(Statement::OnInterface {
                 call,
                 device,

@@ -4,7 +4,7 @@ ghost use Rattle.usb_text.specs.Bytes.{cut};
 ghost use Rattle.usb_statement.specs.UrbNames.{role_of, role_parts, driver_parts, urb_name_of};
 
 use std::alloc::Global;
-use usb_text::{copy, cut, is_name, is_text, number};
+use usb_text::{cut, is_name, is_text, number};
 use usb_types::{Buf, Memory, Role};
 
 /// How a line names an URB: by its own name, or as one of a driver's.
@@ -50,7 +50,7 @@ fn by_role(alloc: Global, device: &[u8], word: &[u8]) -> Result<Option<UrbName>,
     }
     match (number(number_word), role(role_word)) {
         (Some(number), Some(role)) => {
-            let device = copy(alloc, device)?;
+            let device = Buf::copy(alloc, device)?;
             Ok(Some(UrbName::Driver {
                 device,
                 number,
@@ -66,7 +66,7 @@ pub fn read_urb_name(alloc: Global, word: &[u8]) -> Result<Option<UrbName>, Memo
     ensures { IfOk result (λ name. name ≡ urb_name_of word.now) }
 {
     if is_name(word) {
-        let name = copy(alloc, word)?;
+        let name = Buf::copy(alloc, word)?;
         return Ok(Some(UrbName::Scripted(name)));
     }
     match cut(word, b'.') {

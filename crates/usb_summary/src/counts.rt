@@ -5,7 +5,7 @@ ghost use Rattle.usb_generate.specs.Summary.{bytes_in};
 ghost use Rattle.usb_line.specs.declared.made.GivebackRow.{GivebackRow};
 ghost use Rattle.usb_summary.specs.Counts.{submit_code, again_code, is_fault, is_some_of, submits_in, counts_of};
 
-use usb_line::{CallAnswer, CallMade, GivebackRow, Outcome};
+use usb_line::{CallAnswer, CallMade, GivebackRow, LineOutcome, Outcome};
 use usb_scene::Operation;
 use usb_types::Code;
 
@@ -88,10 +88,12 @@ fn bytes_moved(given: &[GivebackRow]) -> u64
     bytes
 }
 
-/// The counts of these calls and givebacks.
-pub(crate) fn count(made: &[CallMade], given: &[GivebackRow]) -> Counts
-    ensures { result ≡ counts_of made.now given.now }
+/// The counts of a run's calls and givebacks.
+pub(crate) fn count(outcome: &LineOutcome) -> Counts
+    ensures { result ≡ counts_of outcome.now.made outcome.now.given }
 {
+    let made = outcome.made.items();
+    let given = outcome.given.items();
     Counts {
         accepted: accepted(made, given),
         refused: refused(made, given),

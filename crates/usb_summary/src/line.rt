@@ -9,7 +9,7 @@ use crate::counts::{Counts, count};
 use std::alloc::Global;
 use usb_generate::generate;
 use usb_line::{LineOutcome, run_line};
-use usb_prepare::{Prepared, prepare};
+use usb_prepare::prepare;
 use usb_scene::Scene;
 use usb_text::push_number;
 use usb_types::{Buf, Memory};
@@ -19,14 +19,8 @@ fn run(alloc: Global, scene: &Scene) -> Result<LineOutcome, Memory>
     requires { IsWellFormed scene.now }
     ensures { IfOk result (IsOutcome scene.now) }
 {
-    let Prepared {
-        devices,
-        found: _found,
-        board,
-        ids,
-        layout,
-    } = prepare(alloc, scene)?;
-    run_line(alloc, scene, devices, &board, ids.items(), &layout)
+    let prepared = prepare(alloc, scene)?;
+    run_line(alloc, scene, prepared)
 }
 
 // Adds some words, and a number.
@@ -55,6 +49,5 @@ pub fn summary(alloc: Global, number: u32, report: &mut Buf) -> Result<(), Memor
 {
     let scene = generate(alloc, number)?;
     let outcome = run(alloc, &scene)?;
-    let counts = count(outcome.made.items(), outcome.given.items());
-    push_counts(report, number, counts)
+    push_counts(report, number, count(&outcome))
 }

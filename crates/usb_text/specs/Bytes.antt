@@ -1,4 +1,5 @@
 -- DATA: the bytes that a word spells.
+use Rattle.usb_types.specs.Limits.{most_buffer, most_packet}
 use Rattle.std.specs.Prelude.{ℕ, ◌+◌, ◌==◌, ◌&&◌, nat_le, if◌then◌else◌, List, [], length, take, drop, replicate, Option, Some, None, position, option_and_then, codes}
 use Rattle.std.specs.Result.{result_ok}
 use Rattle.std.specs.Str.{bytes_eq}
@@ -13,9 +14,9 @@ cut_at word (Some at) = Some (take at word, drop (at + 1) word)
 abbrev pub cut : ℕ → List ℕ → Option (List ℕ × List ℕ)
 cut b word = cut_at word (position (λ c. c == b) word)
 
--- 1 to 16,384 equal bytes
+-- 1 to `most_buffer` equal bytes
 abbrev pub equal_bytes : Option ℕ → Option ℕ → Option (List ℕ)
-equal_bytes (Some n) (Some b) = if nat_le 1 n && nat_le n 16384 then Some (replicate n b) else None
+equal_bytes (Some n) (Some b) = if nat_le 1 n && nat_le n most_buffer then Some (replicate n b) else None
 equal_bytes _ _ = None
 
 -- NUM:HH
@@ -39,5 +40,5 @@ data_of word =
 abbrev pub payload_of : List ℕ → Option (List ℕ)
 payload_of word =
     if bytes_eq (take 2 word) (codes "p:")
-    then option_and_then (λ bytes. if nat_le (length bytes) 1024 then Some bytes else None) (spelled_bytes (drop 2 word))
+    then option_and_then (λ bytes. if nat_le (length bytes) most_packet then Some bytes else None) (spelled_bytes (drop 2 word))
     else None

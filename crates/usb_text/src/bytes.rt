@@ -1,4 +1,5 @@
 //! The bytes that a word of a scene spells.
+ghost use Rattle.usb_types.specs.Limits.{most_packet};
 ghost use Rattle.std.specs.Prelude.{◌≡◌, ◌<◌, ◌==◌, nat_le, if◌then◌else◌, length, take, drop, position, IfOk, IfSome, None, Some, MatchOption};
 ghost use Rattle.std.specs.Result.{result_ok};
 ghost use Rattle.hex.specs.Hex.{decode_of};
@@ -6,6 +7,7 @@ ghost use Rattle.usb_text.specs.Bytes.{cut, equal_bytes, filled_parts, spelled_b
 
 use crate::kinds::{byte, is_text, number, split_two};
 use std::alloc::Global;
+use usb_types::limits::{MOST_BUFFER, MOST_PACKET};
 use usb_types::{Buf, Memory};
 
 fn place(word: &[u8], b: u8) -> Option<usize>
@@ -29,7 +31,7 @@ fn equal_bytes(alloc: Global, count: Option<u32>, b: Option<u8>) -> Result<Optio
     let (Some(count), Some(b)) = (count, b) else {
         return Ok(None);
     };
-    if 1 <= count && count <= 16384 {
+    if 1 <= count && count <= MOST_BUFFER {
         match vec![in alloc; b; count as usize] {
             Ok(bytes) => Ok(Some(Buf::of(bytes))),
             Err(_) => Err(Memory),
@@ -92,9 +94,9 @@ pub fn data_bytes(alloc: Global, word: &[u8]) -> Result<Option<Buf>, Memory>
 }
 
 fn short_payload(bytes: Buf) -> Option<Buf>
-    ensures { result ≡ (if nat_le (length bytes) 1024 then Some bytes else None) }
+    ensures { result ≡ (if nat_le (length bytes) most_packet then Some bytes else None) }
 {
-    if bytes.bytes().len() <= 1024 {
+    if bytes.bytes().len() <= MOST_PACKET as usize {
         Some(bytes)
     } else {
         None

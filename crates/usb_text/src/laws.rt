@@ -1,4 +1,5 @@
 //! What is printed is read again.
+ghost use Rattle.usb_types.specs.Limits.{most_packet};
 ghost use Rattle.std.specs.Prelude.{◌≡◌, ◌<◌, ◌≤◌, ◌^◌, ℕ, List, Some, length, decimal, IsTrue};
 ghost use Rattle.usb_text.specs.Words.{words};
 ghost use Rattle.usb_text.specs.Kinds.{number_of, is_address, address_of};
@@ -23,7 +24,7 @@ pub fn address_reads_back()
 
 /// A packet that is written is read again.
 pub fn packet_reads_back()
-    ensures { (bytes : List ℕ) → AreBytes bytes → length bytes ≤ 1024 → payload_of (packet_text bytes) ≡ Some bytes }
+    ensures { (bytes : List ℕ) → AreBytes bytes → length bytes ≤ most_packet → payload_of (packet_text bytes) ≡ Some bytes }
 {}
 
 /// Bytes that are written as a word of data are read again.

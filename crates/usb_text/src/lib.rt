@@ -15,4 +15,4 @@ pub use laws::{
 };
 pub use lines::{are_plain, next_line, without_return};
 pub use print::{push_hex, push_number, push_pairs};
-pub use words::{copy, next_word};
+pub use words::next_word;

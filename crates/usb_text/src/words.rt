@@ -1,10 +1,7 @@
 //! The words of a line.
-ghost use Rattle.std.specs.Prelude.{◌≡◌, ◌<◌, ◌≤◌, ◌∷◌, [], length, not, IfSome, IfNone, IfOk};
+ghost use Rattle.std.specs.Prelude.{◌≡◌, ◌<◌, ◌≤◌, ◌∷◌, [], length, not, IfSome, IfNone};
 ghost use Rattle.std.specs.List.{prefix_len};
 ghost use Rattle.usb_text.specs.Words.{is_blank, is_comment, all_words, words};
-
-use std::alloc::Global;
-use usb_types::{Buf, Memory};
 
 #[tactic(auto, unfolding(crate::specs::Words::is_blank))]
 fn is_blank(b: u8) -> bool
@@ -64,15 +61,5 @@ pub fn next_word(line: &[u8]) -> Option<(&[u8], &[u8])>
         None
     } else {
         Some((word, behind))
-    }
-}
-
-/// A copy of some bytes.
-pub fn copy(alloc: Global, bytes: &[u8]) -> Result<Buf, Memory>
-    ensures { IfOk result (λ copy. copy ≡ bytes.now) }
-{
-    match bytes.to_vec(alloc) {
-        Ok(bytes) => Ok(Buf::of(bytes)),
-        Err(_) => Err(Memory),
     }
 }

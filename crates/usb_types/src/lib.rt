@@ -3,6 +3,7 @@
 
 mod buf;
 mod errno;
+pub mod limits;
 mod list;
 mod memory_ends;
 mod outside;

@@ -1,9 +1,10 @@
 -- How a list of replies moves a transfer: its bytes, and whether it goes on, waits or has ended.
-use Rattle.std.specs.Prelude.{ℕ, ◌≡◌, Bool, true, false, if◌then◌else◌, List, [], ◌∷◌, ◌++◌, take, drop, Option, Some, None}
+use Rattle.std.specs.Prelude.{ℕ, ◌≡◌, Bool, true, false, if◌then◌else◌, List, [], ◌∷◌, ◌++◌, Option, Some, None}
 use Rattle.usb_types.specs.declared.errno.Code.{Code}
 use Rattle.usb_machine.specs.declared.layout.Shape.{Shape}
 use Rattle.usb_machine.specs.declared.transfer.Transfer.{Transfer}
 use Rattle.usb_machine.specs.Shapes.{HasWindow}
+use Rattle.usb_machine.specs.Completion.{moved_bytes}
 use Rattle.usb_xfer.specs.declared.script.What.TheVariants.{Nak}
 use Rattle.usb_xfer.specs.declared.packet.Step.{Step}
 use Rattle.usb_xfer.specs.declared.packet.Step.TheVariants.{More, Waiting, Ended}
@@ -77,7 +78,7 @@ IsOpen shape t replies = ending shape t [] replies ≡ None
 -- the moved bytes of the window, where the device was sent them in packets
 abbrev pub acked_in : Direction → Transfer → List ℕ
 acked_in In now = []
-acked_in Out now = take now.actual (drop now.from now.buf)
+acked_in Out now = moved_bytes now
 acked_in ControlIn now = []
 acked_in ControlOut now = []
 

@@ -79,6 +79,9 @@ pub fn check_reports<R: Abort + AllocGlobal + Threads + Wait + Sync>(
     Ok(())
 }
 
+/// The header and a device `k` of the keyboard's kind.
+pub const KEYBOARD: &str = "scene 1\ndevice k keyboard\n";
+
 /// The list of each scene, after a front, goes on so after a common beginning.
 pub fn check_lists<R: Abort + AllocGlobal + Threads + Wait + Sync>(
     rt: &R,

@@ -54,57 +54,58 @@ fn a_scene_may_have_less_or_more_than_the_first(rt: HostRuntime) -> Result<(), F
     check_reports(&rt, "", "", Status::Done, "", ROWS)
 }
 
+const MOVES: &[(&str, &str)] = &[
+    (
+        "p:01020304 p:0506\nurb a d 8A len 8",
+        "given\na 0 6 rest 010203040506\n",
+    ),
+    (
+        "p:01020304 p:05060708\nurb a d 8A len 8",
+        "given\na 0 8 rest 0102030405060708\n",
+    ),
+    (
+        "p:01020304 p:\nurb a d 8A len 8",
+        "given\na 0 4 rest 01020304\n",
+    ),
+    (
+        "p:0102030405\nurb a d 8A len 8",
+        "given\na -EOVERFLOW 0 rest -\n",
+    ),
+    (
+        "p:010203\nurb a d 8A len 2",
+        "given\na -EOVERFLOW 0 rest -\n",
+    ),
+    (
+        "p:01020304 p:0506\nurb a d 8A len 5",
+        "given\na -EOVERFLOW 4 rest 01020304\n",
+    ),
+    (
+        "p:01020304 stall\nurb a d 8A len 8",
+        "given\na -EPIPE 4 rest 01020304\n",
+    ),
+    (
+        "error p:01\nurb a d 8A len 8",
+        "given\na -EPROTO 0 rest -\n",
+    ),
+    ("p:\nurb a d 8A", "given\na 0 0 rest -\n"),
+    ("nak p:01\nurb a d 8A len 8", "given\na -ENOENT 0 rest -\n"),
+    (
+        "p:01020304\nurb a d 8A len 8",
+        "given\na -ENOENT 4 rest 01020304\n",
+    ),
+];
+
 #[test]
 fn replies_move_a_transfer(rt: HostRuntime) -> Result<(), Fail> {
     let front = "scene 1\ndevice d raw\nep 8a bulk 4 0\nanswer 8A ";
     let back = "\nthread t\nsubmit a\nserve\n";
-    const ROWS: &[(&str, &str)] = &[
-        (
-            "p:01020304 p:0506\nurb a d 8A len 8",
-            "given\na 0 6 rest 010203040506\n",
-        ),
-        (
-            "p:01020304 p:05060708\nurb a d 8A len 8",
-            "given\na 0 8 rest 0102030405060708\n",
-        ),
-        (
-            "p:01020304 p:\nurb a d 8A len 8",
-            "given\na 0 4 rest 01020304\n",
-        ),
-        (
-            "p:0102030405\nurb a d 8A len 8",
-            "given\na -EOVERFLOW 0 rest -\n",
-        ),
-        (
-            "p:010203\nurb a d 8A len 2",
-            "given\na -EOVERFLOW 0 rest -\n",
-        ),
-        (
-            "p:01020304 p:0506\nurb a d 8A len 5",
-            "given\na -EOVERFLOW 4 rest 01020304\n",
-        ),
-        (
-            "p:01020304 stall\nurb a d 8A len 8",
-            "given\na -EPIPE 4 rest 01020304\n",
-        ),
-        (
-            "error p:01\nurb a d 8A len 8",
-            "given\na -EPROTO 0 rest -\n",
-        ),
-        ("p:\nurb a d 8A", "given\na 0 0 rest -\n"),
-        ("nak p:01\nurb a d 8A len 8", "given\na -ENOENT 0 rest -\n"),
-        (
-            "p:01020304\nurb a d 8A len 8",
-            "given\na -ENOENT 4 rest 01020304\n",
-        ),
-    ];
     check_reports(
         &rt,
         front,
         back,
         Status::Done,
         "thread t\n7 submit a 0\n",
-        ROWS,
+        MOVES,
     )
 }
 

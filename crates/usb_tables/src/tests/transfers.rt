@@ -1,5 +1,6 @@
 //! Transfers that a device takes or gives, packet by packet and at once.
 ghost use Rattle.std.specs.Prelude.{◌≡◌, ◌<◌};
+ghost use Rattle.std.proofs.Common.{arith};
 ghost use Rattle.usb_xfer.specs.Replies.{Reply, control_in_heard, room_after};
 
 use std::test::Fail;
@@ -18,6 +19,14 @@ struct Adder {
 
 impl Device for Adder {
     ghost replies = { λ old address question r new. Unit {0} };
+
+    ghost items_used = { λ d. 0 };
+
+    ghost never_falls = { λ old address question r new is. Prim.omega arith };
+
+    fn used(&self) -> u64 {
+        0
+    }
 
     fn input(&mut self, _address: u8, _room: &mut [u8]) -> InReply {
         InReply::Nak

@@ -21,12 +21,18 @@ new_cores-requires c =
 
 pub returns : goal.returns
 returns c =
+    let p = c.requires.prepared in
     let cores = c.in_ok-cores.cores.items in
-    let ends : AreNewEnds c.args.layout.now.shapes c.in-Ok.ends.items = subst (λ (l : List Shape). AreNewEnds l c.in-Ok.ends.items) c.items.ensures c.in-Ok.ensures in
-    let rows : AreNewCores c.in-Ok-urb_rows.urbs.items c.bindings.result.now c.args.ids.now cores = subst (λ (l : List UrbRow). AreNewCores l c.bindings.result.now c.args.ids.now cores) c.deref.ensures.value c.in_ok-cores.ensures in
-    let told = subst (λ (ids : List (List ℕ)). AreNewCores c.in-Ok-urb_rows.urbs.items c.bindings.result.now ids cores) c.requires.ids rows in
-    shows_start c.args.scene.now c.requires.good _ c.requires.stands
-    (subst (λ (l : List Shape). AreNewEnds l c.in-Ok.ends.items) (ap (λ (l : Layout). l.shapes) c.requires.layout) ends)
-    c.requires.ready c.requires.heard c.in-Ok-urb_rows.ensures
-    (subst (λ (l : List Bound). AreNewCores c.in-Ok-urb_rows.urbs.items l (ids_of c.args.scene.now) cores) (c.bindings.ensures.bindings ∙ ap (λ (b : BoardValue). b.bindings) c.requires.bound) told)
-    (c.of.ensures ∙ c.new.ensures.items) refl
+    let shapes = c.items.ensures ∙ ap (λ (l : Layout). l.shapes) p.layout in
+    let bindings = c.bindings.ensures.bindings ∙ ap (λ (b : BoardValue). b.bindings) p.board in
+    let rows : AreNewCores c.in-Ok-urb_rows.urbs.items c.bindings.result.now c.items-3.result.now cores = subst (λ (l : List UrbRow). AreNewCores l c.bindings.result.now c.items-3.result.now cores) c.deref.ensures.value c.in_ok-cores.ensures in
+    let told = subst (λ (ids : List (List ℕ)). AreNewCores c.in-Ok-urb_rows.urbs.items c.bindings.result.now ids cores) (c.items-3.ensures ∙ p.ids) rows in
+    record {
+      run = shows_start c.args.scene.now c.requires.good _ c.requires.stands
+          (subst (λ (l : List Shape). AreNewEnds l c.in-Ok.ends.items) shapes c.in-Ok.ensures)
+          p.devices p.heard c.in-Ok-urb_rows.ensures
+          (subst (λ (l : List Bound). AreNewCores c.in-Ok-urb_rows.urbs.items l (ids_of c.args.scene.now) cores) bindings told)
+          (c.of.ensures ∙ c.new.ensures.items) refl;
+      found = p.found;
+      board = p.board;
+    }

@@ -15,10 +15,12 @@ returns-clause-used c =
       free = refl;
       state = refl;
       end = end;
-      place = c.next.new.self;
+      place = c.next-next.new.self;
       there = there;
       ends = refl;
-      item = c.next.ensures.item;
-      on = c.next.ensures.next;
-      left = left_next d _ c.args.address end c.next.new.self c.next.result there refl c.next.ensures.left;
+      item = c.next-next.ensures.item;
+      on = c.next-next.ensures.next;
+      left = left_next d _ c.args.address end c.next-next.new.self c.next-next.result there refl c.next-next.ensures.left;
+      count = c.counted-self.ensures.count;
+      rises = c.counted-self.ensures.rises;
     }

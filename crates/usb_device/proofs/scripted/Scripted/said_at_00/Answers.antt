@@ -11,7 +11,7 @@ returns-then-self-gt0-clause-asked c script calls question stands =
     free_asked script calls c.args.self.now _ question stands (omega arith) refl refl refl refl
 
 pub returns-then-self-gt0-clause-spends : goal.returns-then-self-gt0-clause-spends
-returns-then-self-gt0-clause-spends c = spends_none c.args.self.now _ 0 Stall refl (λ off. absurd (off refl))
+returns-then-self-gt0-clause-spends c = spends_none c.args.self.now _ 0 Stall refl refl (λ off. absurd (off refl))
 
 pub returns-then-is_raw-clause-asked : goal.returns-then-is_raw-clause-asked
 returns-then-is_raw-clause-asked c script calls question stands =

@@ -17,7 +17,7 @@ returns-then-is_taken c =
     let ack : packet_word c.said.result ≡ Ack = is_an_ack (packet_word c.said.result) (ap is_taken (sym c.heard_out-heard.ensures) ∙ (sym c.is_taken.ensures ∙ c.if-is_taken.true)) in (
       packet_word c.said.result,
       sent c.args.self.now d _ c.args.address c.args.packet.now c.said.result end c.add.new.self
-          (λ script calls stands. c.said.ensures.asked script calls (Send c.args.packet.now) stands) c.said.ensures.spends ack refl refl refl there refl c.add.ensures,
+          (λ script calls stands. c.said.ensures.asked script calls (Send c.args.packet.now) stands) c.said.ensures.spends ack refl refl refl refl there refl c.add.ensures,
       c.heard_out-heard.ensures,
     )
 

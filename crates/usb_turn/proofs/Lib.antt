@@ -1,0 +1,11 @@
+pub mod Rows
+pub mod Views
+pub mod Turning
+pub mod Telling
+pub mod Dealing
+pub mod Sitting
+pub mod Gathering
+pub mod Crossing
+pub mod Turned
+pub mod Dealt
+pub mod Examples
