@@ -9,7 +9,7 @@ use crate::names::push_device;
 use usb_bind::{Bound, Driver};
 use usb_ctrl::EnumFault;
 use usb_desc::DescFault;
-use usb_prepare::{InterfaceFound, Found, Taken};
+use usb_prepare::{Found, InterfaceFound, Taken};
 use usb_scene::Scene;
 use usb_text::{push_number, push_pairs};
 use usb_types::{Buf, Code, Errno, Memory, classes, name_of, requests};
