@@ -50,19 +50,11 @@ pub fn setup_for(asked: InterfaceOp, interface: u8) -> Option<[u8; 8]>
     }
 }
 
-fn copied(alloc: Global, bytes: &[u8]) -> Result<Buf, Memory>
-    ensures { IfOk result (λ buf. buf ≡ bytes.now) }
-{
-    let mut buf = Buf::of(Vec::new(alloc));
-    buf.append(bytes)?;
-    Ok(buf)
-}
-
-fn some_copied(alloc: Global, said: &Option<Buf>) -> Result<Option<Buf>, Memory>
+fn copied(alloc: Global, said: &Option<Buf>) -> Result<Option<Buf>, Memory>
     ensures { IfOk result (λ copy. copy ≡ said.now) }
 {
     match said {
-        Some(bytes) => Ok(Some(copied(alloc, bytes.bytes())?)),
+        Some(bytes) => Ok(Some(Buf::copy(alloc, bytes.bytes())?)),
         None => Ok(None),
     }
 }
@@ -81,14 +73,12 @@ pub fn payload_for(
             stop,
             parity,
             bits,
-        } => Ok(Some(copied(alloc, &coding(rate, stop, parity, bits))?)),
+        } => Ok(Some(Buf::copy(alloc, &coding(rate, stop, parity, bits))?)),
         InterfaceOp::Control { .. } | InterfaceOp::SendBreak { .. } | InterfaceOp::SoftReset => {
             Ok(Some(Buf::of(Vec::new(alloc))))
         }
-        InterfaceOp::Status => Ok(Some(copied(alloc, &[0])?)),
-        InterfaceOp::Led { .. } | InterfaceOp::Write | InterfaceOp::Print => {
-            some_copied(alloc, said)
-        }
+        InterfaceOp::Status => Ok(Some(Buf::copy(alloc, &[0])?)),
+        InterfaceOp::Led { .. } | InterfaceOp::Write | InterfaceOp::Print => { copied(alloc, said) }
     }
 }
 

@@ -70,11 +70,7 @@ fn copied(alloc: Global, said: &Option<Buf>) -> Result<Option<Buf>, Memory>
     ensures { IfOk result (λ copy. copy ≡ said.now) }
 {
     match said {
-        Some(bytes) => {
-            let mut buf = Buf::of(Vec::new(alloc));
-            buf.append(bytes.bytes())?;
-            Ok(Some(buf))
-        }
+        Some(bytes) => Ok(Some(Buf::copy(alloc, bytes.bytes())?)),
         None => Ok(None),
     }
 }

@@ -106,7 +106,7 @@ module _ (number : ℕ) (good : IsWellFormed (generated number)) where
           + count_by (λ (g : GivebackRow). is_some_of such (again_code g.outcome)) (map (giveback_row (generated number)) rounds)
       server =
           sym (count-filter (λ (x : Entry). q x.event x.answer) (λ (x : Entry). not (is_aside x.event x.answer)) (λ x out. t.quiet x.event x.answer (aside_untold x.event x.answer out)) (part_of h 0))
-          ∙ (ap sum_of run.server ∙ rounds_counted (generated number) (all_raw number) takes q such gives t rounds)
+          ∙ (ap sum_of (run.together refl) ∙ rounds_counted (generated number) (all_raw number) takes q such gives t rounds)
 
       calls : sum_of (part_of h 2) ≡ count_by (λ (m : CallMade). is_some_of such (submit_code m)) (map made_of call_records)
       calls = ap sum_of (run.threads 0 (omega arith) ∙ ap (flat_map (call_entries (generated number))) done)
