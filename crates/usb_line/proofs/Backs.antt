@@ -39,7 +39,7 @@ use Rattle.usb_trace.specs.GivebackRow.{giveback_row, acked_at, sent_bytes, IsRe
 use Rattle.usb_line.specs.Shows.{IsApt, HoldsTransfer, ShowsUrb, ShowsEnd, ShowsCores, Shows, ShowsDevices, asked_now}
 use Rattle.usb_trace.specs.GivebackRow.{Adds}
 use Rattle.usb_line.specs.Back.{is_again, left_by, row_back, CanPoseAny, CanGive}
-use Rattle.usb_line.proofs.Resending.{resent_unmoved}
+use Rattle.usb_trace.proofs.Resent.{resent_unmoved}
 use Rattle.usb_line.proofs.Givebacks.{handled_state, resubmits, IsApart, apart_any, posed, IsPut, accepted_idle, giveback_state, giveback_other, giveback_pending, giveback_sent, giveback_posed, giveback_posed_sent}
 use Rattle.usb_line.proofs.Calm.{calm_giveback, linked_giveback}
 use Rattle.usb_line.proofs.Marked.{first_at_home}

@@ -34,7 +34,7 @@ use Rattle.usb_line.proofs.MayFollow.{once, finish_follows, give_follows, rest_f
 use Rattle.usb_line.specs.Line.{submit_answer}
 use Rattle.usb_trace.proofs.AskedEach.{asked_each}
 use Rattle.usb_line.proofs.Submits.{submit_pass, submit_state, submit_other, submit_pending, submit_sent, submit_follow}
-use Rattle.usb_line.proofs.Resending.{resent_number, resent_unmoved}
+use Rattle.usb_trace.proofs.Resent.{resent_number, resent_unmoved}
 
 -- whether a handler submits the transfer again and is accepted
 abbrev pub resubmits : Outcome → Bool

@@ -19,7 +19,7 @@ use Rattle.usb_trace.specs.declared.rows.HostCall.{HostCall}
 use Rattle.usb_trace.specs.declared.rows.HostCall.TheVariants as host_call
 use Rattle.usb_scene.specs.Operation.{operation_of}
 use Rattle.usb_trace.specs.Plan.{host_call_called, called_urb, host_call_by, host_call_of}
-use Rattle.usb_line.specs.ByNumber.{numbered_on, numbered_on_any, host_call_numbered}
+use Rattle.usb_trace.specs.ByNumber.{numbered_on, numbered_on_any, host_call_numbered}
 use Rattle.usb_trace.proofs.ByNumber.{by_number}
 use Rattle.usb_line.proofs.Called.{called_near}
 

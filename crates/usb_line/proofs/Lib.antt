@@ -19,7 +19,6 @@ pub mod Pendings
 pub mod Stepping
 pub mod Taking
 pub mod Homes
-pub mod Moves
 pub mod Resending
 pub mod Givebacks
 pub mod Parts

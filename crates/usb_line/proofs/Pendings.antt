@@ -25,7 +25,7 @@ use Rattle.usb_prepare.specs.Layout.{urb_count, home}
 use Rattle.usb_trace.specs.Plan.{machine_of}
 use Rattle.usb_line.specs.Line.{Progress, replies_had}
 use Rattle.usb_line.specs.Shows.{IsMoving, HoldsTransfer, Shows}
-use Rattle.usb_line.specs.Back.{CanNote, CanAsk}
+use Rattle.usb_line.specs.Back.{CanNote, CanAsk, CanGiveBack}
 use Rattle.usb_line.proofs.Homes.{home_shape}
 use Rattle.usb_prepare.proofs.Facts.{home_near}
 use Rattle.usb_device.proofs.Lookups.{each_set}
@@ -91,16 +91,8 @@ module _ (s : Scene) (f : Progress) (run : LineRun) (old : Shows s f run) where
     pub held_size : (u : ℕ) (t : Transfer) → IsHeld u t → 0 < (shape_at s (home s u)).max
     held_size u t is = accepted_size (shape_at s (home s u)) is.moving.start (subst (λ o. Accepts o is.moving.start) (home_shape s good u is.near) is.taken)
 
--- an URB whose transfer was taken out can come back
-pub record CanBring (mid : LineRun) (u : ℕ) : Type 0 where
-  pub known : u < urbs_of mid.plain
-  pub there : u < length mid.urbs.items
-  pub home : (row : UrbRow) → slice_get mid.urbs.items u ≡ Some row → row.home < length mid.ends.items
-  pub core : (row : UrbRow) → slice_get mid.urbs.items u ≡ Some row → CanNote mid.cores.items row.owner
-  pub asks : (row : UrbRow) → slice_get mid.urbs.items u ≡ Some row → CanAsk mid row.owner
-
 pub can_bring : (s : Scene) (f : Progress) (run mid : LineRun) (old : Shows s f run) → IsWellFormed s → (u : ℕ) (row : UrbRow) → slice_get run.urbs.items u ≡ Some row
-    → mid.urbs.items ≡ slice_set run.urbs.items u (record row { transfer = None }) → length mid.ends.items ≡ length run.ends.items → mid.plain ≡ run.plain → mid.cores ≡ run.cores → CanBring mid u
+    → mid.urbs.items ≡ slice_set run.urbs.items u (record row { transfer = None }) → length mid.ends.items ≡ length run.ends.items → mid.plain ≡ run.plain → mid.cores ≡ run.cores → CanGiveBack mid u
 can_bring s f run mid old good u row at rows ends plain cores =
     let near = slice_get_within run.urbs.items u row at in
     let all = same_urbs s f run old in

@@ -24,7 +24,7 @@ use Rattle.usb_trace.specs.Plan.{owner_of}
 use Rattle.usb_trace.specs.Run.{action_by, resent_as}
 use Rattle.usb_line.specs.Between.{IsBare}
 use Rattle.usb_line.specs.Shows.{IsApt}
-use Rattle.usb_line.proofs.Moves.{moved_same}
+use Rattle.usb_trace.proofs.Moves.{moved_same}
 
 -- without a setup packet an endpoint that takes one length takes every length
 bare_fits : (kind : EndKind) (len more : ℕ) (other : Option Errno) → else_fault (setup_fault kind None len) other ≡ None → else_fault (setup_fault kind None more) other ≡ None
@@ -38,24 +38,6 @@ pub resent_setup : (o : Option Owner) (status : Code) (t : Transfer) → (resent
 resent_setup o status t = go (action_by o true status t)
   where
     go : (action : Action) → (window_by action t).setup ≡ t.setup
-    go Rest = refl
-    go Ask = refl
-    go (Again from len) = refl
-
--- nor the number
-pub resent_number : (o : Option Owner) (status : Code) (t : Transfer) → (resent_as o status t).number ≡ t.number
-resent_number o status t = go (action_by o true status t)
-  where
-    go : (action : Action) → (window_by action t).number ≡ t.number
-    go Rest = refl
-    go Ask = refl
-    go (Again from len) = refl
-
--- and it has moved nothing yet
-pub resent_unmoved : (o : Option Owner) (status : Code) (t : Transfer) → (resent_as o status t).actual ≡ 0
-resent_unmoved o status t = go (action_by o true status t)
-  where
-    go : (action : Action) → (window_by action t).actual ≡ 0
     go Rest = refl
     go Ask = refl
     go (Again from len) = refl

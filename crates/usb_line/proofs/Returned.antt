@@ -39,7 +39,7 @@ use Rattle.usb_line.specs.Shows.{IsApt, HoldsTransfer, ShowsDevices, ShowsUrb, S
 use Rattle.usb_trace.specs.GivebackRow.{Adds}
 use Rattle.usb_line.specs.Back.{MayGive, CanPoseAny, is_again, row_back, GaveBack, given_after, Noted, QuestionBy, SettledBy, Settled, IsPosedBy}
 use Rattle.usb_line.specs.Turned.{SameElse}
-use Rattle.usb_line.proofs.Moves.{moved_same}
+use Rattle.usb_trace.proofs.Moves.{moved_same}
 use Rattle.usb_line.proofs.Homes.{some_at}
 use Rattle.usb_line.proofs.Cores.{row_asks}
 use Rattle.usb_line.proofs.Posing.{asking_apt, asking_weighs}

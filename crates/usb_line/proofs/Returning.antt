@@ -39,7 +39,7 @@ use Rattle.usb_line.proofs.Calm.{calm_giveback}
 use Rattle.usb_line.proofs.Marked.{first_at_home}
 use Rattle.usb_trace.proofs.Dues.{due-append}
 use Rattle.usb_trace.proofs.Episodes.{episodes-append, firsts-append}
-use Rattle.usb_line.proofs.Moves.{moved_same}
+use Rattle.usb_trace.proofs.Moves.{moved_same}
 use Rattle.usb_line.proofs.Resending.{resent_setup}
 use Rattle.usb_line.proofs.Serving.{served, IsMoving, AreFirstGiven, SentBare, Serves, whole_none, due_none}
 

@@ -26,8 +26,8 @@ use Rattle.usb_trace.specs.Run.{Giveback, moved_in, resent, handled_by, given_en
 use Rattle.usb_line.specs.declared.giveback.PosedQuestion.{PosedQuestion}
 use Rattle.usb_trace.specs.Plan.{DriverQuestion, question_at}
 use Rattle.usb_line.specs.Back.{CanGive, finish_entries, given_after, acted_entries, is_again, IsPosed, IsPosedBy}
-use Rattle.usb_line.proofs.Moves.{moved_same}
-use Rattle.usb_line.proofs.Resending.{resent_number}
+use Rattle.usb_trace.proofs.Moves.{moved_same}
+use Rattle.usb_trace.proofs.Resent.{resent_number}
 use Rattle.usb_trace.proofs.Entries.{AllFollow, own_state}
 use Rattle.usb_line.proofs.Givebacks.{given_follow, handled_follow, end_runs}
 use Rattle.usb_line.proofs.MayFollow.{end_follows}

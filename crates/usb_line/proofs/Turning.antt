@@ -16,11 +16,11 @@ use Rattle.usb_prepare.proofs.Facts.{home_near, end_device}
 use Rattle.usb_trace.specs.Plan.{machine_of}
 use Rattle.usb_line.specs.Line.{Progress, marked_of}
 use Rattle.usb_line.specs.Shows.{Shows, turns_left}
-use Rattle.usb_line.specs.Back.{GaveBack}
+use Rattle.usb_line.specs.Back.{GaveBack, CanGiveBack}
 use Rattle.usb_line.specs.Turned.{TakesOut, MovedOn, FallsAsleep, FirstAwake, EndsAt, PassesBy}
 use Rattle.usb_line.proofs.Scanning.{pending_is_queued_at}
 use Rattle.usb_line.proofs.Unlinking.{first_is}
-use Rattle.usb_line.proofs.Pendings.{IsHeld, held_transfer, held_size, queued_holds, CanBring, can_bring}
+use Rattle.usb_line.proofs.Pendings.{IsHeld, held_transfer, held_size, queued_holds, can_bring}
 use Rattle.usb_line.proofs.Moving.{ends_at, ended_falls, passes_waiting, waiting_keeps}
 
 module _ (s : Scene) (good : IsWellFormed s) (f : Progress) (run mid : LineRun) (old : Shows s f run) (ep u : ℕ) (awake : FirstAwake s f ep (Some u)) where
@@ -66,7 +66,7 @@ module _ (s : Scene) (good : IsWellFormed s) (f : Progress) (run mid : LineRun) 
       awake_home = ap f.asleep (sym here) ∙ awake.0
 
       -- it can come back
-      pub moved_can_bring : CanBring on u
+      pub moved_can_bring : CanGiveBack on u
       moved_can_bring = can_bring s f run on old good u out.row out.at ((λ i. (moves.same_urbs i).items) ∙ out.rows)
           ((λ i. length (moves.same_ends i).items) ∙ (λ i. length (out.same_ends i).items)) (moves.same.plain ∙ out.same.plain) (moves.same.cores ∙ out.same.cores)
 

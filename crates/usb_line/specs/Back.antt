@@ -238,6 +238,15 @@ abbrev pub CanPoseQuestion : List Core → Option Owner → Type 0
 CanPoseQuestion cores None = Unit {0}
 CanPoseQuestion cores (Some o) = o.place < length cores
 
+-- URB u, whose transfer was taken out of its row, can be given back: it is there with its endpoint, its driver's core is there,
+-- and so is the URB that its driver's question is asked with
+pub record CanGiveBack (run : LineRun) (u : ℕ) : Type 0 where
+  pub known : u < urbs_of run.plain
+  pub there : u < length run.urbs.items
+  pub home : (row : UrbRow) → slice_get run.urbs.items u ≡ Some row → row.home < length run.ends.items
+  pub core : (row : UrbRow) → slice_get run.urbs.items u ≡ Some row → CanNote run.cores.items row.owner
+  pub asks : (row : UrbRow) → slice_get run.urbs.items u ≡ Some row → CanAsk run row.owner
+
 -- what a giveback of URB u with this transfer changes
 pub record GaveBack (old new : LineRun) (u : ℕ) (ended : Option Code) (t : Transfer) : Type 0 where
   pub status : Code

@@ -1,4 +1,3 @@
-pub mod ByNumber
 pub mod Reads
 pub mod Line
 pub mod Between

@@ -1,7 +1,6 @@
 -- What the run in line order leaves for its report.
 use Rattle.std.specs.Prelude.{◌≡◌}
 use Rattle.usb_scene.specs.declared.scene.Scene.{Scene}
-use Rattle.usb_scene.specs.Operation.{operation_of}
 use Rattle.usb_line.specs.declared.run.EndRow.{EndRow}
 use Rattle.usb_trace.specs.declared.received.EndReceived.{EndReceived}
 use Rattle.usb_trace.specs.declared.rows.RunOutcome.{RunOutcome}

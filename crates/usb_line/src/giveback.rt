@@ -8,7 +8,7 @@ ghost use Rattle.usb_line.specs.declared.run.UrbRow.{UrbRow};
 ghost use Rattle.usb_trace.specs.Plan.{machine_of};
 ghost use Rattle.usb_trace.specs.Run.{Giveback, given_entries};
 ghost use Rattle.usb_line.specs.Steps.{AsMany};
-ghost use Rattle.usb_line.specs.Back.{is_again, CanNote, Noted, CanAsk, CanPoseQuestion, QuestionBy, PosesQuestion, CanSettle, Settled, Finished, Acted, Resubmitted, GaveStatus, Handled, left_by, GaveBack};
+ghost use Rattle.usb_line.specs.Back.{is_again, CanNote, Noted, CanAsk, CanPoseQuestion, QuestionBy, PosesQuestion, CanSettle, Settled, Finished, Acted, Resubmitted, GaveStatus, Handled, left_by, CanGiveBack, GaveBack};
 
 use crate::run::{LineRun, UrbRow};
 use crate::steps::{code_in, enter};
@@ -201,11 +201,7 @@ impl LineRun<'_> {
         ended: Option<Code>,
         t: Transfer,
     ) -> Result<(), Memory>
-        requires known { urb < urbs_of self.old.plain }
-        requires there { urb < length self.old.urbs.items }
-        requires home { (row : UrbRow) → slice_get self.old.urbs.items urb ≡ Some row → row.home < length self.old.ends.items }
-        requires core { (row : UrbRow) → slice_get self.old.urbs.items urb ≡ Some row → CanNote self.old.cores.items row.owner }
-        requires asks { (row : UrbRow) → slice_get self.old.urbs.items urb ≡ Some row → CanAsk self.old row.owner }
+        requires can { CanGiveBack self.old urb }
         requires window { HasWindow t }
         ensures back { IfOk result (λ _. GaveBack self.old self.new urb ended t) }
     {

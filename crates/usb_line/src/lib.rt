@@ -1,7 +1,6 @@
 //! The run of a scene in line order: what line order adds to a run, its laws, and the code that makes it.
 #![tactic(auto)]
 
-mod call_laws;
 mod close;
 mod down;
 mod every;
@@ -22,7 +21,6 @@ mod urb_calls;
 mod wait;
 mod wake;
 
-pub use call_laws::a_call_does_what_its_number_says;
 pub use laws::{
     a_run_in_line_order_finds_the_host_as_it_was_left, a_run_in_line_order_is_a_run,
     a_scene_has_one_run_in_line_order,

@@ -24,7 +24,7 @@ use Rattle.usb_prepare.specs.Layout.{role_urb}
 use Rattle.usb_trace.specs.declared.rows.HostCall.{HostCall}
 use Rattle.usb_trace.specs.declared.rows.HostCall.TheVariants as host_call
 use Rattle.usb_trace.specs.Plan.{host_call_on, host_call_alone, host_call_on_any, host_call_called, called_of, host_call_by, host_call_of}
-use Rattle.usb_line.specs.ByNumber.{numbered_on, numbered_alone, numbered_on_any, numbered_role, numbered_urb, host_call_numbered}
+use Rattle.usb_trace.specs.ByNumber.{numbered_on, numbered_alone, numbered_on_any, numbered_role, numbered_urb, host_call_numbered}
 
 on_by_number : (o : Operation) → Decoded o → (u : ℕ) → host_call_on o u ≡ numbered_on (number_of o) u
 on_by_number op.Submit is u = refl

@@ -20,3 +20,5 @@ pub mod Beginning
 pub mod Firsts
 pub mod Jobs
 pub mod Heard
+pub mod Moves
+pub mod Resent

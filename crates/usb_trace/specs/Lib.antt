@@ -5,3 +5,4 @@ pub mod Run
 pub mod GivebackRow
 pub mod Rows
 pub mod RunLaws
+pub mod ByNumber

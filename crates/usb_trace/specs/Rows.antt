@@ -1,6 +1,7 @@
 -- What a run leaves for its report: the rows of its calls and endpoints, and all of it.
 use Rattle.std.specs.Prelude.{ℕ, ◌≡◌, ◌-◌, ◌^◌, min, List, length, map, take}
 use Rattle.usb_scene.specs.declared.scene.Scene.{Scene}
+use Rattle.usb_scene.specs.Operation.{operation_of}
 use Rattle.usb_trace.specs.declared.rows.CallMade.{CallMade}
 use Rattle.usb_trace.specs.declared.received.Received.{Received}
 use Rattle.usb_trace.specs.declared.received.EndReceived.{EndReceived}

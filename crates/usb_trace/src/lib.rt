@@ -1,12 +1,14 @@
 //! What a run of a scene is, whatever makes it, with the laws that hold of each run, and the rows that it leaves for its report.
 #![tactic(auto)]
 
+mod call_laws;
 mod owner;
 mod received;
 mod rows;
 mod run_laws;
 mod thread;
 
+pub use call_laws::a_call_does_what_its_number_says;
 pub use owner::{Owner, owner_in};
 pub use received::{EndReceived, Received, brought};
 pub use rows::{CallAnswer, CallMade, GivebackRow, HostCall, Outcome, RunOutcome};

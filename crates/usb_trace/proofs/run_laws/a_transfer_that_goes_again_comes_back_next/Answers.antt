@@ -4,8 +4,8 @@ use Rattle.usb_prepare.specs.Ends.{shape_at}
 use Rattle.usb_prepare.specs.Layout.{home}
 use Rattle.usb_trace.specs.Plan.{owner_of}
 use Rattle.usb_trace.specs.Run.{moved_in}
-use Rattle.usb_line.proofs.Moves.{moved_same}
-use Rattle.usb_line.proofs.Resending.{resent_number}
+use Rattle.usb_trace.proofs.Moves.{moved_same}
+use Rattle.usb_trace.proofs.Resent.{resent_number}
 use Rattle.usb_trace.proofs.Carrying.{sent_on}
 use Rattle.usb_trace.proofs.run_laws.a_transfer_that_goes_again_comes_back_next.Goals as goal
 

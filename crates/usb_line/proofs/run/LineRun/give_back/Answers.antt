@@ -23,8 +23,8 @@ posed_question-posed_question-requires-clause-near c =
     let decided = c.decide.new.self in
     let row = c.index-row.result.now in
     let kept : decided ≡ record run { plain = c.give-status.new.plain; cores = decided.cores } = c.in_ok-action.ensures.rest in
-    let at : slice_get run.urbs.items c.args.urb ≡ Some row = slice_get-get_or run.urbs.items c.args.urb row c.requires.there ∙ ap Some (sym c.index-row.ensures) in
-    can_ask_decided run decided c.give-status.new.plain kept row.owner c.give-status.ensures.counts.urbs (c.requires.asks row at)
+    let at : slice_get run.urbs.items c.args.urb ≡ Some row = slice_get-get_or run.urbs.items c.args.urb row c.requires.can.there ∙ ap Some (sym c.index-row.ensures) in
+    can_ask_decided run decided c.give-status.new.plain kept row.owner c.give-status.ensures.counts.urbs (c.requires.can.asks row at)
 
 pub handle-outcome-requires-clause-asks : goal.handle-outcome-requires-clause-asks
 handle-outcome-requires-clause-asks c =
@@ -32,8 +32,8 @@ handle-outcome-requires-clause-asks c =
     let decided = c.decide.new.self in
     let row = c.index-row.result.now in
     let kept : decided ≡ record run { plain = c.give-status.new.plain; cores = decided.cores } = c.in_ok-action.ensures.rest in
-    let at : slice_get run.urbs.items c.args.urb ≡ Some row = slice_get-get_or run.urbs.items c.args.urb row c.requires.there ∙ ap Some (sym c.index-row.ensures) in
-    let near = can_ask_decided run decided c.give-status.new.plain kept row.owner c.give-status.ensures.counts.urbs (c.requires.asks row at) in
+    let at : slice_get run.urbs.items c.args.urb ≡ Some row = slice_get-get_or run.urbs.items c.args.urb row c.requires.can.there ∙ ap Some (sym c.index-row.ensures) in
+    let near = can_ask_decided run decided c.give-status.new.plain kept row.owner c.give-status.ensures.counts.urbs (c.requires.can.asks row at) in
     poses_within decided c.posed_question-posed_question.new.self row.owner c.in_ok-action.action c.posed_question-posed_question.result c.posed_question-posed_question.ensures.asked near (ap (λ (r : LineRun). r.plain) c.posed_question-posed_question.ensures.rest)
 
 pub index-requires : goal.index-requires
@@ -42,8 +42,8 @@ index-requires c =
     let decided = c.decide.new.self in
     let row = c.index-row.result.now in
     let kept : decided ≡ record run { plain = c.give-status.new.plain; cores = decided.cores } = c.in_ok-action.ensures.rest in
-    let at : slice_get run.urbs.items c.args.urb ≡ Some row = slice_get-get_or run.urbs.items c.args.urb row c.requires.there ∙ ap Some (sym c.index-row.ensures) in
-    home_in run decided c.give-status.new.plain kept c.posed_question-posed_question.new.self c.posed_question-posed_question.ensures.rest row.home (c.requires.home row at)
+    let at : slice_get run.urbs.items c.args.urb ≡ Some row = slice_get-get_or run.urbs.items c.args.urb row c.requires.can.there ∙ ap Some (sym c.index-row.ensures) in
+    home_in run decided c.give-status.new.plain kept c.posed_question-posed_question.new.self c.posed_question-posed_question.ensures.rest row.home (c.requires.can.home row at)
 
 pub index_mut-requires : goal.index_mut-requires
 index_mut-requires c =
@@ -51,8 +51,8 @@ index_mut-requires c =
     let decided = c.decide.new.self in
     let row = c.index-row.result.now in
     let kept : decided ≡ record run { plain = c.give-status.new.plain; cores = decided.cores } = c.in_ok-action.ensures.rest in
-    let at : slice_get run.urbs.items c.args.urb ≡ Some row = slice_get-get_or run.urbs.items c.args.urb row c.requires.there ∙ ap Some (sym c.index-row.ensures) in
-    home_in run decided c.give-status.new.plain kept c.posed_question-posed_question.new.self c.posed_question-posed_question.ensures.rest row.home (c.requires.home row at)
+    let at : slice_get run.urbs.items c.args.urb ≡ Some row = slice_get-get_or run.urbs.items c.args.urb row c.requires.can.there ∙ ap Some (sym c.index-row.ensures) in
+    home_in run decided c.give-status.new.plain kept c.posed_question-posed_question.new.self c.posed_question-posed_question.ensures.rest row.home (c.requires.can.home row at)
 
 pub settle-requires : goal.settle-requires
 settle-requires c =
@@ -60,9 +60,9 @@ settle-requires c =
     let decided = c.decide.new.self in
     let row = c.index-row.result.now in
     let kept : decided ≡ record run { plain = c.give-status.new.plain; cores = decided.cores } = c.in_ok-action.ensures.rest in
-    let at : slice_get run.urbs.items c.args.urb ≡ Some row = slice_get-get_or run.urbs.items c.args.urb row c.requires.there ∙ ap Some (sym c.index-row.ensures) in
+    let at : slice_get run.urbs.items c.args.urb ≡ Some row = slice_get-get_or run.urbs.items c.args.urb row c.requires.can.there ∙ ap Some (sym c.index-row.ensures) in
     let asking = c.posed_question-posed_question.new.self in
-    let near = can_ask_decided run decided c.give-status.new.plain kept row.owner c.give-status.ensures.counts.urbs (c.requires.asks row at) in
+    let near = can_ask_decided run decided c.give-status.new.plain kept row.owner c.give-status.ensures.counts.urbs (c.requires.can.asks row at) in
     poses_settle decided asking row.owner c.in_ok-action.action c.posed_question-posed_question.result c.posed_question-posed_question.ensures.asked near (record asking {
       plain = c.handle-outcome.new.plain;
       ends = with_item asking.ends row.home (record c.index_mut.result.now { received = c.note.new.self });
@@ -83,8 +83,8 @@ returns c =
     let plain = ap (λ (r : LineRun). r.plain) kept in
     let whole : asking ≡ record run { plain = c.give-status.new.plain; cores = asking.cores } = same ∙ (λ i. record (kept i) { cores = asking.cores }) in
     let ends = ap (λ (r : LineRun). r.ends.items) whole in
-    let at : slice_get run.urbs.items c.args.urb ≡ Some row = slice_get-get_or run.urbs.items c.args.urb row c.requires.there ∙ ap Some (sym c.index-row.ensures) in
-    let near = home_asking run decided c.give-status.new.plain kept asking same row.home (c.requires.home row at) in
+    let at : slice_get run.urbs.items c.args.urb ≡ Some row = slice_get-get_or run.urbs.items c.args.urb row c.requires.can.there ∙ ap Some (sym c.index-row.ensures) in
+    let near = home_asking run decided c.give-status.new.plain kept asking same row.home (c.requires.can.home row at) in
     let read : slice_get asking.ends.items row.home ≡ Some c.index.result.now = slice_get-get_or asking.ends.items row.home c.index.result.now near ∙ ap Some (sym c.index.ensures) in
     let found : slice_get asking.ends.items row.home ≡ Some end = slice_get-get_or asking.ends.items row.home end near ∙ ap Some (sym c.index_mut.ensures.value) in
     let both : Some c.index.result.now ≡ Some end = sym read ∙ found in

@@ -19,25 +19,9 @@ returns-in_default-clause-given c = λ s f good shows first. let out = c.take_ou
     absurd (queued_holds s f c.args.self.now shows c.args.urb out.row out.at (unlinked_near s f c.args.self.now shows c.args.urb first).1
     (sym out.is ∙ none_of c.take_out.result c.in_default.not-Some))
 
-pub give_back-requires-clause-known : goal.give_back-requires-clause-known
-give_back-requires-clause-known c = let q = c.requires in let out = c.take_out.ensures in
-    (can_bring q.scene q.far c.args.self.now c.take_out.new.self q.shows q.good c.args.urb out.row out.at out.rows (λ i. length (out.same_ends i).items) out.same.plain out.same.cores).known
-
-pub give_back-requires-clause-there : goal.give_back-requires-clause-there
-give_back-requires-clause-there c = let q = c.requires in let out = c.take_out.ensures in
-    (can_bring q.scene q.far c.args.self.now c.take_out.new.self q.shows q.good c.args.urb out.row out.at out.rows (λ i. length (out.same_ends i).items) out.same.plain out.same.cores).there
-
-pub give_back-requires-clause-home : goal.give_back-requires-clause-home
-give_back-requires-clause-home c = let q = c.requires in let out = c.take_out.ensures in
-    (can_bring q.scene q.far c.args.self.now c.take_out.new.self q.shows q.good c.args.urb out.row out.at out.rows (λ i. length (out.same_ends i).items) out.same.plain out.same.cores).home
-
-pub give_back-requires-clause-core : goal.give_back-requires-clause-core
-give_back-requires-clause-core c = let q = c.requires in let out = c.take_out.ensures in
-    (can_bring q.scene q.far c.args.self.now c.take_out.new.self q.shows q.good c.args.urb out.row out.at out.rows (λ i. length (out.same_ends i).items) out.same.plain out.same.cores).core
-
-pub give_back-requires-clause-asks : goal.give_back-requires-clause-asks
-give_back-requires-clause-asks c = let q = c.requires in let out = c.take_out.ensures in
-    (can_bring q.scene q.far c.args.self.now c.take_out.new.self q.shows q.good c.args.urb out.row out.at out.rows (λ i. length (out.same_ends i).items) out.same.plain out.same.cores).asks
+pub give_back-requires-clause-can : goal.give_back-requires-clause-can
+give_back-requires-clause-can c = let q = c.requires in let out = c.take_out.ensures in
+    can_bring q.scene q.far c.args.self.now c.take_out.new.self q.shows q.good c.args.urb out.row out.at out.rows (λ i. length (out.same_ends i).items) out.same.plain out.same.cores
 
 pub give_back-requires-clause-window : goal.give_back-requires-clause-window
 give_back-requires-clause-window c = let q = c.requires in let out = c.take_out.ensures in

@@ -58,35 +58,11 @@ returns-in_default-move_on-clause-served c = λ s f good shows none. let run = c
     c.in-Some-take_out.t (subst (λ (o : Option Transfer). TakesOut run c.take_out.new.self c.in-Some.urb o) c.in-Some-take_out.is c.take_out.ensures)
     c.move_on.new.self c.move_on.new.t c.move_on.result c.move_on.ensures (sym (none_of c.move_on.result c.in_default-move_on.not-Some)) c.fall_asleep.new.self c.fall_asleep.ensures
 
-pub give_back-requires-clause-known : goal.give_back-requires-clause-known
-give_back-requires-clause-known c = let q = c.requires.unmarked in let run = c.args.self.now in
-    (moved_can_bring q.scene q.good q.far run c.take_out.new.self q.shows c.args.ep c.in-Some.urb (subst (FirstAwake q.scene q.far c.args.ep) c.in-Some.is (c.first_awake.ensures q.scene q.far q.shows))
+pub give_back-requires-clause-can : goal.give_back-requires-clause-can
+give_back-requires-clause-can c = let q = c.requires.unmarked in let run = c.args.self.now in
+    moved_can_bring q.scene q.good q.far run c.take_out.new.self q.shows c.args.ep c.in-Some.urb (subst (FirstAwake q.scene q.far c.args.ep) c.in-Some.is (c.first_awake.ensures q.scene q.far q.shows))
     c.in-Some-take_out.t (subst (λ (o : Option Transfer). TakesOut run c.take_out.new.self c.in-Some.urb o) c.in-Some-take_out.is c.take_out.ensures)
-    c.move_on.new.self c.move_on.new.t c.move_on.result c.move_on.ensures).known
-
-pub give_back-requires-clause-there : goal.give_back-requires-clause-there
-give_back-requires-clause-there c = let q = c.requires.unmarked in let run = c.args.self.now in
-    (moved_can_bring q.scene q.good q.far run c.take_out.new.self q.shows c.args.ep c.in-Some.urb (subst (FirstAwake q.scene q.far c.args.ep) c.in-Some.is (c.first_awake.ensures q.scene q.far q.shows))
-    c.in-Some-take_out.t (subst (λ (o : Option Transfer). TakesOut run c.take_out.new.self c.in-Some.urb o) c.in-Some-take_out.is c.take_out.ensures)
-    c.move_on.new.self c.move_on.new.t c.move_on.result c.move_on.ensures).there
-
-pub give_back-requires-clause-home : goal.give_back-requires-clause-home
-give_back-requires-clause-home c = let q = c.requires.unmarked in let run = c.args.self.now in
-    (moved_can_bring q.scene q.good q.far run c.take_out.new.self q.shows c.args.ep c.in-Some.urb (subst (FirstAwake q.scene q.far c.args.ep) c.in-Some.is (c.first_awake.ensures q.scene q.far q.shows))
-    c.in-Some-take_out.t (subst (λ (o : Option Transfer). TakesOut run c.take_out.new.self c.in-Some.urb o) c.in-Some-take_out.is c.take_out.ensures)
-    c.move_on.new.self c.move_on.new.t c.move_on.result c.move_on.ensures).home
-
-pub give_back-requires-clause-core : goal.give_back-requires-clause-core
-give_back-requires-clause-core c = let q = c.requires.unmarked in let run = c.args.self.now in
-    (moved_can_bring q.scene q.good q.far run c.take_out.new.self q.shows c.args.ep c.in-Some.urb (subst (FirstAwake q.scene q.far c.args.ep) c.in-Some.is (c.first_awake.ensures q.scene q.far q.shows))
-    c.in-Some-take_out.t (subst (λ (o : Option Transfer). TakesOut run c.take_out.new.self c.in-Some.urb o) c.in-Some-take_out.is c.take_out.ensures)
-    c.move_on.new.self c.move_on.new.t c.move_on.result c.move_on.ensures).core
-
-pub give_back-requires-clause-asks : goal.give_back-requires-clause-asks
-give_back-requires-clause-asks c = let q = c.requires.unmarked in let run = c.args.self.now in
-    (moved_can_bring q.scene q.good q.far run c.take_out.new.self q.shows c.args.ep c.in-Some.urb (subst (FirstAwake q.scene q.far c.args.ep) c.in-Some.is (c.first_awake.ensures q.scene q.far q.shows))
-    c.in-Some-take_out.t (subst (λ (o : Option Transfer). TakesOut run c.take_out.new.self c.in-Some.urb o) c.in-Some-take_out.is c.take_out.ensures)
-    c.move_on.new.self c.move_on.new.t c.move_on.result c.move_on.ensures).asks
+    c.move_on.new.self c.move_on.new.t c.move_on.result c.move_on.ensures
 
 pub returns-clause-falls : goal.returns-clause-falls
 returns-clause-falls c = let q = c.requires.unmarked in let run = c.args.self.now in

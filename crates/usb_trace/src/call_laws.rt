@@ -3,7 +3,7 @@ ghost use Rattle.std.specs.Prelude.{◌≡◌};
 ghost use Rattle.usb_scene.specs.declared.scene.Scene.{Scene};
 ghost use Rattle.usb_scene.specs.declared.scene.Call.{Call};
 ghost use Rattle.usb_trace.specs.Plan.{host_call_of};
-ghost use Rattle.usb_line.specs.ByNumber.{host_call_numbered};
+ghost use Rattle.usb_trace.specs.ByNumber.{host_call_numbered};
 
 /// What a call does is what its number in the table of calls says.
 #[tactic(auto, using(crate::proofs::ByNumber::by_number))]
