@@ -78,8 +78,8 @@ impl Handler for Resting {
     fn unask(&mut self, _t: Transfer) {}
 }
 
-/// Submits three transfers to a device that answers Nak to all, serves, and kills the second URB, which waits. Answers the
-/// kill's result.
+/// One caller submits three transfers to a device that answers Nak to all. They are served, and another caller kills the
+/// second URB, which waits. Answers the kill's result.
 pub fn kill_one_of_three(
     alloc: Global,
     layout: &Layout,
@@ -93,15 +93,15 @@ pub fn kill_one_of_three(
     requires first { HasWindow first × (first.actual ≡ 0) }
     requires second { HasWindow second × (second.actual ≡ 0) }
     requires third { HasWindow third × (third.actual ≡ 0) }
-    ensures ran { IfOk result (λ stopped. (h : List Entry) × IsLegal (machine_for layout.now 1) h × ThreeRun (machine_for layout.now 1) first second third stopped h) }
+    ensures ran { IfOk result (λ stopped. (h : List Entry) × IsLegal (machine_for layout.now 2) h × ThreeRun (machine_for layout.now 2) first second third stopped h) }
 {
     let devices = silent_devices(alloc)?;
-    let mut solo = Solo::new(alloc, layout, 1, devices, Resting { count: 0 })?;
-    let _first = solo.submit(UrbId(0), first);
-    let _second = solo.submit(UrbId(1), second);
-    let _third = solo.submit(UrbId(2), third);
+    let mut solo = Solo::new(alloc, layout, 2, devices, Resting { count: 0 })?;
+    let _first = solo.submit(2, UrbId(0), first);
+    let _second = solo.submit(2, UrbId(1), second);
+    let _third = solo.submit(2, UrbId(2), third);
     match solo.serve() {
-        Ok(_) => solo.kill(2, UrbId(1)),
+        Ok(_) => solo.kill(3, UrbId(1)),
         Err(memory) => Err(memory),
     }
 }
