@@ -17,7 +17,7 @@ use Rattle.usb_serve.specs.declared.controller.EndRow.{EndRow}
 use Rattle.usb_serve.specs.declared.controller.Controller.{Controller}
 use Rattle.usb_xfer.specs.Moved.{IsWhole}
 use Rattle.usb_serve.specs.Knows.{Knows, IsPending, SamePending, Keeps, FinishesNone, pending_with, Takes, Leaves}
-use Rattle.usb_serve.specs.Held.{held_in, held_at, urbs_in, HasLayout, IsHeld, Agrees, CleanIsOpen, with_held}
+use Rattle.usb_serve.specs.Held.{held_in, held_at, urbs_in, HasLayout, IsHeld, IsNew, after_first, Agrees, CleanIsOpen, with_held}
 use Rattle.usb_serve.specs.Taking.{with_urb}
 use Rattle.usb_serve.specs.Looking.{with_clean, Stays}
 use Rattle.usb_serve.proofs.Lookups.{each_set, set_here, set_there}
@@ -71,6 +71,35 @@ held_kept old new shape e h keeps none was is o = record {
   unfinished = λ f. o.unfinished (none.none e h.urb.0 was is f);
 }
 
+-- a transfer that is as it was taken stays so, by what the side still knows
+pub new_kept : (old new : Knows) (e : ℕ) (h : Held) → Keeps old new → Contains (old.pending e) h.urb.0 → Contains (new.pending e) h.urb.0 → IsNew old h → IsNew new h
+new_kept old new e h keeps was is q = (keeps.sent e h.urb.0 h.transfer was is q.0, q.1)
+
+-- who stands after the first is among all
+pub later_in : (hs : List Held) (u : ℕ) → Contains (urbs_in (after_first hs)) u → Contains (urbs_in hs) u
+later_in [] u in_ = in_
+later_in (h ∷ hs) u in_ = (suc in_.0, (let m = in_.1 in omega arith), in_.2)
+
+pub all_later : (P : Held → Type 0) (hs : List Held) → All P hs → All P (after_first hs)
+all_later P [] all = all
+all_later P (h ∷ hs) all = All-tail P h hs all
+
+-- one more stands last
+later_push : (P : Held → Type 0) (hs : List Held) (x : Held) → All P (after_first hs) → P x → All P (after_first (hs ++ x ∷ []))
+later_push P [] x all p = λ k d l. absurd (omega arith)
+later_push P (h ∷ hs) x all p = All-push P hs x all p
+
+All-left : (P : Held → Type 0) (xs ys : List Held) → All P (xs ++ ys) → All P xs
+All-left P xs ys p = subst (All P) (take_front xs ys) (All-take P (length xs) (xs ++ ys) p)
+
+All-right : (P : Held → Type 0) (xs ys : List Held) → All P (xs ++ ys) → All P ys
+All-right P xs ys p = subst (All P) (drop_front xs ys) (All-drop P (length xs) (xs ++ ys) p)
+
+-- one was taken out
+later_given : (P : Held → Type 0) (before after : List Held) (h : Held) → All P (after_first (before ++ h ∷ after)) → All P (after_first (before ++ after))
+later_given P [] after h all = all_later P after all
+later_given P (b ∷ bs) after h all = All-append P bs after (All-left P bs (h ∷ after) all) (All-tail P h after (All-right P bs (h ∷ after) all))
+
 abbrev pub LaidOut : Layout → ℕ → ℕ → EndRow → Type 0
 LaidOut l devices f r = (slice_get l.shapes f ≡ Some r.shape) × (r.held.capacity ≡ homed_at l.homes f) × (r.shape.device < devices) × (length r.held.items ≤ r.held.capacity)
 
@@ -93,6 +122,11 @@ module _ {D : Type 0} (old new : Knows) (c d : Controller D) (a : Agrees old c) 
       (λ h in_ o. ((e, in_row e row h.urb.0 at in_), o.unfinished))
 
   module _ (whole : new.is_whole) (keeps : Keeps old new) (none : FinishesNone old new) where
+    -- what stands after the first of a row stays as it was taken
+    later_kept : (e : ℕ) (row : EndRow) → slice_get c.ends.items e ≡ Some row → new.pending e ≡ old.pending e → All (IsNew new) (after_first row.held.items)
+    later_kept e row at same = each_kept (IsNew old) (IsNew new) (after_first row.held.items) (a.holds.fresh e row at)
+        (λ h in_ q. let was = in_row e row h.urb.0 at (later_in row.held.items h.urb.0 in_) in new_kept old new e h keeps was (subst (λ (us : List ℕ). Contains us h.urb.0) (sym same) was) q)
+
     -- a call that leaves what is pending
     pub agrees_same : d ≡ c → SamePending old new → Agrees new d
     agrees_same is same = subst (Agrees new) (sym is) record {
@@ -102,6 +136,7 @@ module _ {D : Type 0} (old new : Knows) (c d : Controller D) (a : Agrees old c) 
         urbs = λ e l. a.holds.urbs e l ∙ sym (same e);
         each = λ e row at. each_kept (IsHeld old row.shape) (IsHeld new row.shape) row.held.items (a.holds.each e row at)
             (λ h in_ o. let was = in_row e row h.urb.0 at in_ in held_kept old new row.shape e h keeps none was (subst (λ (us : List ℕ). Contains us h.urb.0) (sym (same e)) was) o);
+        fresh = λ e row at. later_kept e row at (same e);
       };
     }
 
@@ -127,8 +162,8 @@ module _ {D : Type 0} (old new : Knows) (c d : Controller D) (a : Agrees old c) 
     -- a call that changes what is pending at one endpoint, of which the row is another then
     pub agrees_set : (e : ℕ) (row after : EndRow) → slice_get c.ends.items e ≡ Some row → length d.devices.items ≡ length c.devices.items → d.ends.items ≡ slice_set c.ends.items e after
         → after.shape ≡ row.shape → after.held.capacity ≡ row.held.capacity → length after.held.items ≤ after.held.capacity → urbs_in after.held.items ≡ new.pending e → ((f : ℕ) → f ≢ e → new.pending f ≡ old.pending f)
-        → All (IsHeld new after.shape) after.held.items → Agrees new d
-    agrees_set e row after at devices ends shape capacity fits urbs elsewhere each = record {
+        → All (IsHeld new after.shape) after.held.items → All (IsNew new) (after_first after.held.items) → Agrees new d
+    agrees_set e row after at devices ends shape capacity fits urbs elsewhere each fresh = record {
       whole = whole;
       layout = record {
         all = ap length ends ∙ (length-set c.ends.items e after ∙ (a.layout.all ∙ ap (λ (l : Layout). length l.shapes) (sym keeps.layout)));
@@ -147,6 +182,9 @@ module _ {D : Type 0} (old new : Knows) (c d : Controller D) (a : Agrees old c) 
             (λ f r there. (there, a.holds.each f r there)) each
             (λ f r off o. each_kept (IsHeld old r.shape) (IsHeld new r.shape) r.held.items o.1
             (λ h in_ q. let was = in_row f r h.urb.0 o.0 in_ in held_kept old new r.shape f h keeps none was (subst (λ (us : List ℕ). Contains us h.urb.0) (sym (elsewhere f off)) was) q));
+        fresh = each_set (λ f r. slice_get c.ends.items f ≡ Some r) (λ f r. All (IsNew new) (after_first r.held.items)) c.ends.items d.ends.items e after ends
+            (λ f r there. there) fresh
+            (λ f r off there. later_kept f r there (elsewhere f off));
       };
     }
 
@@ -179,6 +217,9 @@ module _ {D : Type 0} (old new : Knows) (c d : Controller D) (a : Agrees old c) 
           whole = none_whole row.shape t;
           unfinished = took.unfinished;
         })
+        (later_push (IsNew new) row.held.items record { urb = record { 0 = u }; transfer = t } (each_kept (IsNew old) (IsNew new) (after_first row.held.items) (a.holds.fresh e row at)
+        (λ h in_ q. let was = in_row e row h.urb.0 at (later_in row.held.items h.urb.0 in_) in new_kept old new e h keeps was (subst (λ (us : List ℕ). Contains us h.urb.0) (sym more) (Contains-append_left (old.pending e) (u ∷ []) h.urb.0 was)) q))
+        (took.sent, took.unmoved))
       where
         more : new.pending e ≡ old.pending e ++ u ∷ []
         more = pending e ∙ ap (λ b. cond b (old.pending e ++ u ∷ []) (old.pending e)) (eq-eqb e e refl)
@@ -194,6 +235,7 @@ module _ {D : Type 0} (old new : Knows) (c d : Controller D) (a : Agrees old c) 
     agrees_clean e row clean at devices ends same = agrees_set e row (with_clean clean row) at devices ends refl refl (a.layout.each e row at).3 (row_urbs e row at ∙ sym (same e)) (λ f off. same f)
         (each_kept (IsHeld old row.shape) (IsHeld new row.shape) row.held.items (a.holds.each e row at)
         (λ h in_ o. let was = in_row e row h.urb.0 at in_ in held_kept old new row.shape e h keeps none was (subst (λ (us : List ℕ). Contains us h.urb.0) (sym (same e)) was) o))
+        (later_kept e row at (same e))
 
 -- an URB at some place of an endpoint is pending no more
 pub agrees_given : {D : Type 0} (old new : Knows) (c d : Controller D) → Agrees old c → new.is_whole → Keeps old new → FinishesNone old new → (e : ℕ) (row : EndRow) (before after : List Held) (h : Held) → slice_get c.ends.items e ≡ Some row
@@ -201,8 +243,11 @@ pub agrees_given : {D : Type 0} (old new : Knows) (c d : Controller D) → Agree
 agrees_given old new c d a whole keeps none e row before after h at parts devices ends leaves = agrees_set old new c d a whole keeps none e row (with_held (before ++ after) row) at devices ends refl refl
     (let l = (a.layout.each e row at).3 in let n = ap length parts ∙ length-append before (h ∷ after) in let m = length-append before after in omega arith)
     (map-append (λ (h : Held). h.urb.0) before after ∙ sym here) (λ f off. leaves.elsewhere e f among off)
-    (each_kept (IsHeld old row.shape) (IsHeld new row.shape) (before ++ after) (All-append (IsHeld old row.shape) before after (All-left before (h ∷ after) all) (All-tail (IsHeld old row.shape) h after (All-right before (h ∷ after) all)))
+    (each_kept (IsHeld old row.shape) (IsHeld new row.shape) (before ++ after) (All-append (IsHeld old row.shape) before after (All-left (IsHeld old row.shape) before (h ∷ after) all) (All-tail (IsHeld old row.shape) h after (All-right (IsHeld old row.shape) before (h ∷ after) all)))
     (λ g in_ q. let is = subst (λ (us : List ℕ). Contains us g.urb.0) (map-append (λ (h : Held). h.urb.0) before after ∙ sym here) in_ in held_kept old new row.shape e g keeps none (was g.urb.0 (subst (λ (us : List ℕ). Contains us g.urb.0) (map-append (λ (h : Held). h.urb.0) before after) in_)) is q))
+    (each_kept (IsNew old) (IsNew new) (after_first (before ++ after)) (later_given (IsNew old) before after h (subst (λ (l : List Held). All (IsNew old) (after_first l)) parts (a.holds.fresh e row at)))
+    (λ g in_ q. let there = subst (λ (us : List ℕ). Contains us g.urb.0) (map-append (λ (h : Held). h.urb.0) before after) (later_in (before ++ after) g.urb.0 in_) in
+    new_kept old new e g keeps (was g.urb.0 there) (subst (λ (us : List ℕ). Contains us g.urb.0) (sym here) there) q))
   where
     all : All (IsHeld old row.shape) (before ++ h ∷ after)
     all = subst (All (IsHeld old row.shape)) parts (a.holds.each e row at)
@@ -219,12 +264,6 @@ agrees_given old new c d a whole keeps none e row before after h at parts device
     was : (u : ℕ) → Contains (urbs_in before ++ urbs_in after) u → Contains (old.pending e) u
     was u in_ = subst (λ (us : List ℕ). Contains us u) (sym urbs) (⊎_elim (λ l. Contains-append_left (urbs_in before) (h.urb.0 ∷ urbs_in after) u l)
         (λ r. Contains-append_right (urbs_in before) (h.urb.0 ∷ urbs_in after) u (suc r.0, (let m = r.1 in omega arith), r.2)) (Contains-append_cases (urbs_in before) (urbs_in after) u in_))
-
-    All-left : (xs ys : List Held) → All (IsHeld old row.shape) (xs ++ ys) → All (IsHeld old row.shape) xs
-    All-left xs ys p = subst (All (IsHeld old row.shape)) (take_front xs ys) (All-take (IsHeld old row.shape) (length xs) (xs ++ ys) p)
-
-    All-right : (xs ys : List Held) → All (IsHeld old row.shape) (xs ++ ys) → All (IsHeld old row.shape) ys
-    All-right xs ys p = subst (All (IsHeld old row.shape)) (drop_front xs ys) (All-drop (IsHeld old row.shape) (length xs) (xs ++ ys) p)
 
 -- one row more was looked at
 pub opens_more : {D : Type 0} (old new : Knows) (c d : Controller D) → Agrees old c → new.is_whole → Stays old new → (e : ℕ) (was row : EndRow) → slice_get c.ends.items e ≡ Some was → d.ends.items ≡ slice_set c.ends.items e row

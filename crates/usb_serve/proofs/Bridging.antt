@@ -34,12 +34,12 @@ use Rattle.std.proofs.lemmas.List.Elements.{filter-append}
 use Rattle.usb_serve.specs.Bridge.{marked_below, is_unlinked, took, takes_of, takes_below}
 
 -- takes at one endpoint leave the line of another
-line_other : (g : Machine) (h : List Entry) (e d : ℕ) (us : List ℕ) → d ≢ e → line_of g (h ++ takes_of e us) d ≡ line_of g h d
+pub line_other : (g : Machine) (h : List Entry) (e d : ℕ) (us : List ℕ) → d ≢ e → line_of g (h ++ takes_of e us) d ≡ line_of g h d
 line_other g h e d [] off = ap (λ l. line_of g l d) (append-nil h)
 line_other g h e d (u ∷ us) off = ap (λ l. line_of g l d) (sym (append_assoc h (took e u ∷ []) (takes_of e us))) ∙ (line_other g (h ++ took e u ∷ []) e d us off ∙ (line_of-snoc h (took e u) g d
     ∙ ap (λ b. cond b (without_first (line_of g h d)) (line_of g h d)) (ne_eqb e d (λ i. off (sym i)))))
 
-line_above : (g : Machine) (h : List Entry) (n d : ℕ) → n ≤ d → line_of g (h ++ takes_below g h n) d ≡ line_of g h d
+pub line_above : (g : Machine) (h : List Entry) (n d : ℕ) → n ≤ d → line_of g (h ++ takes_below g h n) d ≡ line_of g h d
 line_above g h zero d l = ap (λ l. line_of g l d) (append-nil h)
 line_above g h (suc e) d l = ap (λ l. line_of g l d) (sym (append_assoc h (takes_below g h e) (takes_of e (line_of g h e)))) ∙ (line_other g (h ++ takes_below g h e) e d (line_of g h e) (λ is. absurd (omega arith)) ∙ line_above g h e d (omega arith))
 

@@ -102,25 +102,25 @@ goes_rest g h old new u t at r = record {
 }
 
 -- a submit that the endpoint takes
-pub goes_queued : (g : Machine) (h : List Entry) (old new : PlainSide) (u : UrbId) (t : Transfer) (code : Code) → IsPlainAt old g h → Queued old u t code new → Goes g h (submit_entries SERVER u.0 t code) old new
-goes_queued g h old new u t (Fault errno) at q = record {
+pub goes_queued : (g : Machine) (h : List Entry) (old new : PlainSide) (p : ℕ) (u : UrbId) (t : Transfer) (code : Code) → IsPlainAt old g h → Queued old p u t code new → Goes g h (submit_entries p u.0 t code) old new
+goes_queued g h old new p u t (Fault errno) at q = record {
   at = q.entered g h at;
-  kept = kept_submit g h u t.number (Fault errno) (Some t) at.stands.legal (q.gate g h at);
+  kept = kept_submit g h p u t.number (Fault errno) (Some t) at.stands.legal (q.gate g h at);
   numbers = λ e v l. ap (λ w. number_in (slice_get w.items v)) (q.refused_so errno refl);
-  handlers = handlers_still h (entry SERVER (Submit u t.number) (Status (Fault errno)) (Some t)) tt;
+  handlers = handlers_still h (entry p (Submit u t.number) (Status (Fault errno)) (Some t)) tt;
 }
-goes_queued g h old new u t Zero at q = record {
+goes_queued g h old new p u t Zero at q = record {
   at = q.entered g h at;
-  kept = subst (Kept g h) both (kept_both g h (h ++ x ∷ []) ((h ++ x ∷ []) ++ l ∷ []) (kept_submit g h u t.number Zero (Some t) at.stands.legal (q.gate g h at)) (kept_mild g (h ++ x ∷ []) l tt));
+  kept = subst (Kept g h) both (kept_both g h (h ++ x ∷ []) ((h ++ x ∷ []) ++ l ∷ []) (kept_submit g h p u t.number Zero (Some t) at.stands.legal (q.gate g h at)) (kept_mild g (h ++ x ∷ []) l tt));
   numbers = λ e v m. ap number_in (q.others v (λ is. idle e v m is));
   handlers = λ v. ap (λ k. (state_of k v).handlers) (sym both) ∙ (handlers_still (h ++ x ∷ []) l tt v ∙ handlers_still h x tt v);
 }
   where
     x : Entry
-    x = entry SERVER (Submit u t.number) (Status Zero) (Some t)
+    x = entry p (Submit u t.number) (Status Zero) (Some t)
 
     l : Entry
-    l = plain_entry SERVER (Link u)
+    l = plain_entry p (Link u)
 
     both : (h ++ x ∷ []) ++ l ∷ [] ≡ h ++ x ∷ l ∷ []
     both = append_assoc h (x ∷ []) (l ∷ [])
@@ -134,17 +134,17 @@ module _ {H : Type 0} (completes : H → UrbId → Code → Transfer → Result 
       → (es : List Entry) × HandlerAdds u t r es × Goes g k es b c
   acted k u code t b c h i _ at (rested _ _ done rests) = (rest_entry u t ∷ [], adds.rested, goes_rest g k b c u t at rests)
   acted k u code t b c h i _ at (lacking m _ _ done rests) = (rest_entry u t ∷ [], adds.lacking m, goes_rest g k b c u t at rests)
-  acted k u code t b c h i _ at (again from len _ _ _ done (took _ q)) = (_, adds.accepted from len, goes_queued g k b c u (windowed from len t) Zero at q)
+  acted k u code t b c h i _ at (again from len _ _ _ done (took _ q)) = (_, adds.accepted from len, goes_queued g k b c SERVER u (windowed from len t) Zero at q)
   acted k u code t b c h i _ at (again from len _ _ _ done (rejected errno m _ (inl same) rests)) = (_, adds.unfit from len errno, subst (λ (z : PlainSide). Goes g k (rest_entry u (windowed from len t) ∷ []) z c) same.0 (goes_rest g k m c u (windowed from len t) (subst (λ (z : PlainSide). IsPlainAt z g k) (sym same.0) at) rests))
   acted k u code t b c h i _ at (again from len _ _ _ done (rejected errno m _ (inr q) rests)) = (
     _,
     adds.refused from len errno,
-    (let f = goes_queued g k b m u (windowed from len t) (Fault errno) at q in goes_both g k _ _ b m c f (goes_rest g _ m c u (windowed from len t) f.at rests)),
+    (let f = goes_queued g k b m SERVER u (windowed from len t) (Fault errno) at q in goes_both g k _ _ b m c f (goes_rest g _ m c u (windowed from len t) f.at rests)),
   )
   acted k u code t b c h i _ at (asking _ _ m _ _ done rests (silent _ a)) = (_, adds.rested, goes_rest g k b c u t at rests)
-  acted k u code t b c h i _ at (asking _ _ m _ _ done rests (asked v q _ _ a s)) = (_, adds.asked v q, (let f = goes_rest g k b m u t at rests in goes_both g k _ _ b m c f (goes_queued g _ m c v q Zero f.at s)))
+  acted k u code t b c h i _ at (asking _ _ m _ _ done rests (asked v q _ _ a s)) = (_, adds.asked v q, (let f = goes_rest g k b m u t at rests in goes_both g k _ _ b m c f (goes_queued g _ m c SERVER v q Zero f.at s)))
   acted k u code t b c h i _ at (asking _ _ m _ _ done rests (refused v q errno _ _ _ a (inl same) un)) = (_, adds.asked_unfit errno, subst (λ (z : PlainSide). Goes g k (rest_entry u t ∷ []) b z) (sym same.0) (goes_rest g k b m u t at rests))
-  acted k u code t b c h i _ at (asking _ _ m _ _ done rests (refused v q errno _ _ _ a (inr s) un)) = (_, adds.asked_refused v q errno, (let f = goes_rest g k b m u t at rests in goes_both g k _ _ b m c f (goes_queued g _ m c v q (Fault errno) f.at s)))
+  acted k u code t b c h i _ at (asking _ _ m _ _ done rests (refused v q errno _ _ _ a (inr s) un)) = (_, adds.asked_refused v q errno, (let f = goes_rest g k b m u t at rests in goes_both g k _ _ b m c f (goes_queued g _ m c SERVER v q (Fault errno) f.at s)))
 
 -- what a whole completion adds, and what it keeps
 pub record Done (g : Machine) (k : List Entry) (u : UrbId) (t : Transfer) (r : Result Outcome Memory) (b c : PlainSide) : Type 0 where

@@ -51,7 +51,7 @@ pub clean_one : (answers : List Look) (place : ℕ) (clean : Bool) (a : Look) �
 clean_one [] place clean a long is = ap (λ n. cond (eqb n 0) (is_clean a) clean) (sym long)
 clean_one (b ∷ answers) place clean a long is = let off : place ≢ 0 = omega arith in ap (λ t. cond t (is_clean a) clean) (ne_eqb place 0 off) ∙ is
 
--- a look that tells tells why
+-- a look with a reason names it
 pub answered : (a : Look) → has_reason a ≡ true → (why : Why) × (a ≡ Marked why)
 answered Clean is = cc
 answered (Marked why) is = (why, refl)

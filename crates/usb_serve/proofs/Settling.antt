@@ -18,9 +18,9 @@ use Rattle.usb_xfer.specs.On.{Stops}
 use Rattle.usb_serve.specs.declared.controller.Held.{Held}
 use Rattle.usb_serve.specs.declared.controller.Controller.{Controller}
 use Rattle.usb_serve.specs.Knows.{Knows, SamePending, Keeps, FinishesNone, FinishesOnly, Leaves}
-use Rattle.usb_serve.specs.Held.{urbs_in, with_held, IsHeld, IsOpenHeld, CleanIsOpen, Agrees}
+use Rattle.usb_serve.specs.Held.{urbs_in, with_held, IsHeld, IsOpenHeld, IsNew, after_first, CleanIsOpen, Agrees}
 use Rattle.usb_serve.specs.Serving.{code_of, Moves}
-use Rattle.usb_serve.proofs.Agreeing.{each_kept, held_kept, row_urbs, agrees_set}
+use Rattle.usb_serve.proofs.Agreeing.{each_kept, held_kept, new_kept, all_later, row_urbs, agrees_set}
 use Rattle.usb_serve.proofs.Looks.{keeps_then}
 use Rattle.usb_serve.proofs.Moving.{moved_number}
 
@@ -85,13 +85,21 @@ module _ {D : Type 0} (replies : D → ℕ → Question → Reply → D → Type
     others_kept still = each_kept (IsHeld k v.row.shape) (IsHeld new v.row.shape) v.others (All-tail (IsHeld k v.row.shape) v.first v.others (subst (All (IsHeld k v.row.shape)) v.held (a.holds.each e v.row v.at)))
         (λ h in_ q. held_kept k new v.row.shape e h keeps none (subst (λ (us : List ℕ). Contains us h.urb.0) (sym first_pending) (let r = in_ in (suc r.0, (let m = r.1 in omega arith), r.2))) (still h.urb.0 in_) q)
 
+    -- the others are as they were taken
+    others_new : ((u : ℕ) → Contains (urbs_in v.others) u → Contains (new.pending e) u) → All (IsNew new) v.others
+    others_new still = each_kept (IsNew k) (IsNew new) v.others (subst (λ (l : List Held). All (IsNew k) (after_first l)) v.held (a.holds.fresh e v.row v.at))
+        (λ h in_ q. new_kept k new e h keeps (subst (λ (us : List ℕ). Contains us h.urb.0) (sym first_pending) (let r = in_ in (suc r.0, (let m = r.1 in omega arith), r.2))) (still h.urb.0 in_) q)
+
     -- what was moved is pending as before
     pub agrees_moved : (asleep : Bool) → SamePending k new → d.ends.items ≡ slice_set c.ends.items e (record (with_held (record v.first { transfer = v.now } ∷ v.others) v.row) { asleep = asleep })
         → IsOpen v.row.shape first_held.0.start (first_held.0.before ++ v.more) ⊎ new.is_marked v.first.urb.0 → Agrees new d
     agrees_moved asleep same ends going = agrees_set k new c d a whole keeps none e v.row (record (with_held (record v.first { transfer = v.now } ∷ v.others) v.row) { asleep = asleep }) v.at count ends refl refl
         (let l = (a.layout.each e v.row v.at).3 in let n = ap length v.held in omega arith) (sym first_pending ∙ sym (same e)) (λ f off. same f)
-        (All-cons (IsHeld new v.row.shape) (record v.first { transfer = v.now }) v.others now_held (others_kept (λ u in_. subst (λ (us : List ℕ). Contains us u) (sym (same e ∙ first_pending)) (suc in_.0, (let m = in_.1 in omega arith), in_.2))))
+        (All-cons (IsHeld new v.row.shape) (record v.first { transfer = v.now }) v.others now_held (others_kept still)) (others_new still)
       where
+        still : (u : ℕ) → Contains (urbs_in v.others) u → Contains (new.pending e) u
+        still u in_ = subst (λ (us : List ℕ). Contains us u) (sym (same e ∙ first_pending)) (suc in_.0, (let m = in_.1 in omega arith), in_.2)
+
         now_held : IsHeld new v.row.shape (record v.first { transfer = v.now })
         now_held = let q = first_held.0 in let is = subst (λ (us : List ℕ). Contains us v.first.urb.0) (sym (same e)) among in record {
           start = q.start;
@@ -108,7 +116,10 @@ module _ {D : Type 0} (replies : D → ℕ → Question → Reply → D → Type
     -- what was given back is pending no more
     pub agrees_left : d.ends.items ≡ slice_set c.ends.items e (with_held v.others v.row) → new.pending e ≡ urbs_in v.others → ((f : ℕ) → f ≢ e → new.pending f ≡ k.pending f) → Agrees new d
     agrees_left ends here elsewhere = agrees_set k new c d a whole keeps none e v.row (with_held v.others v.row) v.at count ends refl refl
-        (let l = (a.layout.each e v.row v.at).3 in let n = ap length v.held in omega arith) (sym here) elsewhere (others_kept (λ u in_. subst (λ (us : List ℕ). Contains us u) (sym here) in_))
+        (let l = (a.layout.each e v.row v.at).3 in let n = ap length v.held in omega arith) (sym here) elsewhere (others_kept still) (all_later (IsNew new) v.others (others_new still))
+      where
+        still : (u : ℕ) → Contains (urbs_in v.others) u → Contains (new.pending e) u
+        still u in_ = subst (λ (us : List ℕ). Contains us u) (sym here) in_
 
   -- a finish and a giveback together
   module _ (mid new : Knows) (same : SamePending k mid) (keeps : Keeps k mid) (only : FinishesOnly v.first.urb.0 k mid) (leaves : Leaves mid new v.first.urb.0) (then_keeps : Keeps mid new) (none : FinishesNone mid new) where

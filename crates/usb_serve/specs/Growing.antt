@@ -16,7 +16,7 @@ use Rattle.usb_machine.specs.Calls.{entry, plain_entry, submit_entries}
 use Rattle.usb_serve.specs.declared.handler.Outcome.{Outcome}
 use Rattle.usb_serve.specs.declared.handler.Outcome.TheVariants as outcome
 use Rattle.usb_serve.specs.Handlers.{windowed}
-use Rattle.usb_serve.specs.Bridge.{takes_below}
+use Rattle.usb_serve.specs.Bridge.{takes_below, marked_below}
 
 abbrev pub rest_entry : UrbId → Transfer → Entry
 rest_entry u t = entry SERVER (Rest u t.number) Nothing (Some t)
@@ -42,17 +42,12 @@ pub data HandlerAdds (u : UrbId) (t : Transfer) : Result Outcome Memory → List
   asked_unfit : (errno : Errno) → HandlerAdds u t (Ok (outcome.Asked (Fault errno))) (rest_entry u t ∷ [])
   lacking : (m : Memory) → HandlerAdds u t (Err m) (rest_entry u t ∷ [])
 
--- finishes that found a mark
-pub data Lates : List Entry → Type 0 where
-  none : Lates []
-  late : (es : List Entry) (u : UrbId) (code : Code) → Lates es → Lates (es ++ finish_entry u code false ∷ [])
-
--- what a turn adds, by the URB that it gives back: it takes what the lines hold. It gives back an URB that is marked, or finishes one
--- and gives it back
+-- what a turn adds, by the URB that it gives back: it takes what the lines hold, and then gives back an URB that is marked, or
+-- finishes one and gives it back; where it does neither, no pending URB was unlinked
 pub data TurnAdds (g : Machine) (h : List Entry) : Option UrbId → List Entry → Type 0 where
   marked : (u : UrbId) (code : Code) → TurnAdds g h (Some u) (takes_below g h (length g.layout.shapes) ++ give_entry u code ∷ [])
-  ended : (es : List Entry) (u : UrbId) (code status : Code) → Lates es → TurnAdds g h (Some u) (takes_below g h (length g.layout.shapes) ++ (es ++ finish_entry u code true ∷ give_entry u status ∷ []))
-  idle : (es : List Entry) → Lates es → TurnAdds g h None (takes_below g h (length g.layout.shapes) ++ es)
+  ended : (u : UrbId) (code status : Code) → TurnAdds g h (Some u) (takes_below g h (length g.layout.shapes) ++ finish_entry u code true ∷ give_entry u status ∷ [])
+  idle : marked_below g (h ++ takes_below g h (length g.layout.shapes)) (length g.layout.shapes) ≡ [] → TurnAdds g h None (takes_below g h (length g.layout.shapes))
 
 -- a turn that gives an URB back, then its handler, and then the handler's end
 pub record Round (g : Machine) (h es : List Entry) : Type 0 where

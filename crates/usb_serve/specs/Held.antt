@@ -62,10 +62,20 @@ IsOpenHeld k shape h = (o : IsHeld k shape h) × IsOpen shape o.start o.before
 pub record CleanIsOpen (k : Knows) (row : EndRow) : Type 0 where
   pub open_so : (h : Held) (others : List Held) → row.clean ≡ true → row.held.items ≡ h ∷ others → IsOpenHeld k row.shape h
 
--- per endpoint in order, just the transfers of the side's pending URBs
+-- a pending URB's transfer is as it was taken, and nothing of it was moved
+abbrev pub IsNew : Knows → Held → Type 0
+IsNew k h = k.was_sent h.urb.0 h.transfer × (h.transfer.actual ≡ 0)
+
+-- the pending URBs of an endpoint after the first
+abbrev pub after_first : List Held → List Held
+after_first [] = []
+after_first (h ∷ others) = others
+
+-- per endpoint in order, just the transfers of the side's pending URBs, of which only the first was moved
 pub record Holds (k : Knows) (ends : List EndRow) : Type 0 where
   pub urbs : (e : ℕ) → e < length ends → urbs_in (held_at ends e) ≡ k.pending e
   pub each : (e : ℕ) (row : EndRow) → slice_get ends e ≡ Some row → All (IsHeld k row.shape) row.held.items
+  pub fresh : (e : ℕ) (row : EndRow) → slice_get ends e ≡ Some row → All (IsNew k) (after_first row.held.items)
 
 -- the side and the controller agree
 pub record Agrees {D : Type 0} (k : Knows) (c : Controller D) : Type 0 where

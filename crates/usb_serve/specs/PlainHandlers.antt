@@ -49,9 +49,9 @@ pub record PlainEnds (old : PlainSide) (u : UrbId) (new : PlainSide) : Type 0 wh
   pub entered : (g : Machine) (h : List Entry) → IsPlainAt old g h → IsPlainAt new g (h ++ plain_entry SERVER (End u) ∷ [])
   pub slots : new.urbs ≡ old.urbs
 
--- a transfer was submitted, and its URB linked where the gate took it
-pub record Queued (old : PlainSide) (u : UrbId) (t : Transfer) (code : Code) (new : PlainSide) : Type 0 where
-  pub entered : (g : Machine) (h : List Entry) → IsPlainAt old g h → IsPlainAt new g (h ++ submit_entries SERVER u.0 t code)
+-- a transfer was submitted by pass p, and its URB linked where the gate took it
+pub record Queued (old : PlainSide) (p : ℕ) (u : UrbId) (t : Transfer) (code : Code) (new : PlainSide) : Type 0 where
+  pub entered : (g : Machine) (h : List Entry) → IsPlainAt old g h → IsPlainAt new g (h ++ submit_entries p u.0 t code)
   pub gate : (g : Machine) (h : List Entry) → IsPlainAt old g h → code ≡ refusal (state_of h u.0)
   pub others : (v : ℕ) → v ≢ u.0 → slice_get new.urbs.items v ≡ slice_get old.urbs.items v
   pub refused_so : (errno : Errno) → code ≡ Fault errno → new.urbs ≡ old.urbs
@@ -60,11 +60,15 @@ pub record Queued (old : PlainSide) (u : UrbId) (t : Transfer) (code : Code) (ne
 abbrev pub HasFault : PlainSide → ℕ → Transfer → Errno → Type 0
 HasFault s u t errno = (e : ℕ) (shape : Shape) → slice_get s.plain.homes.items u ≡ Some (Some e) → slice_get s.layout.now.shapes e ≡ Some shape → shape_fault shape t ≡ Some errno
 
+-- what a submit by pass p did, by why it was refused
+abbrev pub SubmitsAs : ℕ → PlainSide → UrbId → Transfer → Option Errno → PlainSide → Type 0
+SubmitsAs p old u t None new = Queued old p u t Zero new
+SubmitsAs p old u t (Some errno) new = ((new ≡ old) × HasFault old u.0 t errno) ⊎ Queued old p u t (Fault errno) new
+
 abbrev pub PlainSubmits : PlainSide → UrbId → Transfer → Option Errno → PlainSide → Type 0
-PlainSubmits old u t None new = Queued old u t Zero new
-PlainSubmits old u t (Some errno) new = ((new ≡ old) × HasFault old u.0 t errno) ⊎ Queued old u t (Fault errno) new
+PlainSubmits old u t refused new = SubmitsAs SERVER old u t refused new
 
 -- what the gate answered, by whether it refused
-abbrev pub QueuedBy : PlainSide → UrbId → Transfer → Result (Unit {0}) Refused → PlainSide → Type 0
-QueuedBy old u t (Ok done) new = Queued old u t Zero new
-QueuedBy old u t (Err r) new = (r.transfer ≡ t) × Queued old u t (Fault r.errno) new
+abbrev pub QueuedBy : ℕ → PlainSide → UrbId → Transfer → Result (Unit {0}) Refused → PlainSide → Type 0
+QueuedBy p old u t (Ok done) new = Queued old p u t Zero new
+QueuedBy p old u t (Err r) new = (r.transfer ≡ t) × Queued old p u t (Fault r.errno) new

@@ -21,7 +21,7 @@ use Rattle.usb_machine.specs.declared.event.Answer.TheVariants.{Number}
 use Rattle.usb_types.specs.declared.errno.Errno.{Errno}
 use Rattle.usb_types.specs.declared.errno.Code.TheVariants.{Zero, Fault}
 use Rattle.usb_machine.specs.Calls.{submit_entries, plain_entry, mark_entry, claim_entries, unblock_entries}
-use Rattle.usb_machine.specs.Parts.{part_of, held_of}
+use Rattle.usb_machine.specs.Parts.{part_of, held_of, owes}
 use Rattle.usb_machine.specs.State.{unlinking}
 use Rattle.usb_serve.specs.declared.solo.Stopped.{Stopped}
 use Rattle.usb_serve.specs.declared.solo.Stopped.TheVariants.{Claimed, Left}
@@ -34,12 +34,13 @@ use Rattle.usb_serve.specs.Turn.{Turned}
 use Rattle.usb_serve.specs.Completing.{Completes}
 use Rattle.usb_serve.specs.Growing.{TurnAdds, Rounds}
 
--- the host is the machine g after a history, its controller agrees, no handler runs, and the URBs that the handler may ask with have
--- a home
+-- the host is the machine g after a history, its controller agrees, no handler runs, no pass owes a Link, and the URBs that the
+-- handler may ask with have a home
 pub record IsSoloAt {D H : Type 0} (asks_with : H → List ℕ) (s : Solo D H) (g : Machine) (h : List Entry) : Type 0 where
   pub at : IsPlainAt s.side g h
   pub agrees : Agrees (plain_knows s.side) s.controller
   pub calm : (u : ℕ) → (state_of h u).handlers ≡ 0
+  pub linked : (p u : ℕ) → owes (part_of h p) u ≡ false
   pub homes : (u : ℕ) → Contains (asks_with s.handler) u → (e : ℕ) × (slice_get g.layout.homes u ≡ Some (Some e))
 
 abbrev pub IsSolo : {D H : Type 0} → (H → List ℕ) → Solo D H → Type 0
@@ -98,7 +99,7 @@ IsQuiet s = (s.queued ≡ false) × (s.handlers ≡ 0)
 -- what a wait adds, by how it ended
 abbrev pub WaitsBy : Machine → List Entry → ℕ → Result Waited Memory → List Entry → Type 0
 WaitsBy g h u (Ok Quiet) es = Rounds g h es × IsQuiet (state_of (h ++ es) u)
-WaitsBy g h u (Ok Idle) es = Served g h es
+WaitsBy g h u (Ok Idle) es = Served g h es × (IsQuiet (state_of (h ++ es) u) → ⊥)
 WaitsBy g h u (Ok Busy) es = Rounds g h es
 WaitsBy g h u (Err m) es = Rounds g h es
 
@@ -148,7 +149,7 @@ abbrev pub answered_number : Answer → Option ℕ
 answered_number (Number n) = n
 answered_number _ = None
 
--- what a submit adds, by why it was refused: nothing where the endpoint does not take the transfer
-abbrev pub SubmitsBy : UrbId → Transfer → Option Errno → List Entry → Type 0
-SubmitsBy u t None es = es ≡ submit_entries SERVER u.0 t Zero
-SubmitsBy u t (Some errno) es = (es ≡ []) ⊎ (es ≡ submit_entries SERVER u.0 t (Fault errno))
+-- what a submit by pass p adds, by why it was refused: nothing where the endpoint does not take the transfer
+abbrev pub SubmitsBy : ℕ → UrbId → Transfer → Option Errno → List Entry → Type 0
+SubmitsBy p u t None es = es ≡ submit_entries p u.0 t Zero
+SubmitsBy p u t (Some errno) es = (es ≡ []) ⊎ (es ≡ submit_entries p u.0 t (Fault errno))

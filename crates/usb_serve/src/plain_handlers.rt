@@ -5,7 +5,7 @@ ghost use Rattle.usb_serve.specs.PlainHandlers.{plain_content, plain_runs, Plain
 
 use crate::handler::{GivenBack, HandlerSide, Refused};
 use crate::plain_side::{PlainGiven, PlainSide};
-use usb_machine::Transfer;
+use usb_machine::{SERVER, Transfer};
 use usb_types::{Code, UrbId};
 
 impl GivenBack for PlainGiven {
@@ -40,10 +40,7 @@ impl HandlerSide for PlainSide<'_> {
     }
 
     fn submit(&mut self, urb: UrbId, t: Transfer) -> Result<(), Refused> {
-        match self.fault(urb, &t) {
-            Some(errno) => Err(Refused { errno, transfer: t }),
-            None => self.queue(urb, t),
-        }
+        self.submit_by(SERVER, urb, t)
     }
 
     fn end(&mut self, given: PlainGiven) {

@@ -6,9 +6,9 @@ ghost use Rattle.usb_machine.specs.declared.layout.Shape.{Shape};
 ghost use Rattle.usb_machine.specs.declared.entry.Entry.{Entry};
 ghost use Rattle.usb_machine.specs.History.{Machine, home_of};
 ghost use Rattle.usb_serve.specs.declared.plain_side.Slots.{Slots};
-ghost use Rattle.usb_serve.specs.Handlers.{StillRuns};
+ghost use Rattle.usb_serve.specs.Handlers.{StillRuns, refusal_in, HandsBack};
 ghost use Rattle.usb_serve.specs.Plain.{IsPlain, IsPlainAt};
-ghost use Rattle.usb_serve.specs.PlainHandlers.{plain_runs, PlainRests, PlainEnds, QueuedBy};
+ghost use Rattle.usb_serve.specs.PlainHandlers.{plain_runs, PlainRests, PlainEnds, SubmitsAs, QueuedBy};
 
 use crate::handler::Refused;
 use crate::plain_side::{PlainSide, code_in};
@@ -65,7 +65,7 @@ impl PlainSide<'_> {
     }
 
     // Why the URB's endpoint does not take the transfer, if it does not.
-    pub(crate) fn fault(&self, urb: UrbId, t: &Transfer) -> Option<Errno>
+    fn fault(&self, urb: UrbId, t: &Transfer) -> Option<Errno>
         requires whole { IsPlain self.now }
         requires home { (plain_runs self.now).has_home urb.0 }
         ensures { (e : ℕ) (shape : Shape) → slice_get self.now.plain.homes.items urb.0 ≡ Some (Some e) → slice_get self.now.layout.now.shapes e ≡ Some shape → result ≡ fault_of shape t.now }
@@ -77,16 +77,17 @@ impl PlainSide<'_> {
     }
 
     // Submits a transfer that the URB's endpoint takes, and links the URB where the gate takes it too.
-    pub(crate) fn queue(&mut self, urb: UrbId, t: Transfer) -> Result<(), Refused>
+    fn queue(&mut self, pass: u32, urb: UrbId, t: Transfer) -> Result<(), Refused>
         requires whole { IsPlain self.old }
+        requires pass { pass < self.old.plain.passes }
         requires home { (plain_runs self.old).has_home urb.0 }
         requires transfer { HasWindow t × (t.actual ≡ 0) }
         requires fits { (g : Machine) (h : List Entry) → IsPlainAt self.old g h → Accepts (slice_get g.layout.shapes (home_of g urb.0)) t }
-        ensures queued { QueuedBy self.old urb t result self.new }
+        ensures queued { QueuedBy pass self.old urb t result self.new }
         ensures still { StillRuns (plain_runs self.old) (plain_runs self.new) }
     {
         let asked = self.plain.step(
-            SERVER,
+            pass,
             Event::Submit {
                 urb,
                 number: t.number,
@@ -95,10 +96,26 @@ impl PlainSide<'_> {
         match code_in(asked) {
             Code::Fault(errno) => Err(Refused { errno, transfer: t }),
             Code::Zero => {
-                self.plain.step(SERVER, Event::Link { urb });
+                self.plain.step(pass, Event::Link { urb });
                 self.put_line(urb, t);
                 Ok(())
             }
+        }
+    }
+
+    /// Submits a transfer by this pass, and links its URB where it is accepted. One that is refused is handed back.
+    pub fn submit_by(&mut self, pass: u32, urb: UrbId, t: Transfer) -> Result<(), Refused>
+        requires whole { IsPlain self.old }
+        requires pass { pass < self.old.plain.passes }
+        requires home { (plain_runs self.old).has_home urb.0 }
+        requires transfer { HasWindow t × (t.actual ≡ 0) }
+        ensures submits { SubmitsAs pass self.old urb t (refusal_in result) self.new }
+        ensures back { HandsBack t result }
+        ensures still { StillRuns (plain_runs self.old) (plain_runs self.new) }
+    {
+        match self.fault(urb, &t) {
+            Some(errno) => Err(Refused { errno, transfer: t }),
+            None => self.queue(pass, urb, t),
         }
     }
 }

@@ -52,7 +52,8 @@ pub trait Side {
         ensures taken { IfSome result (λ r. Takes (knows self.new) ep r.0.0 r.1) }
         ensures keeps { Keeps (knows self.old) (knows self.new) }
         ensures none { FinishesNone (knows self.old) (knows self.new) }
-        ensures room { (knows self.old).may_give → (knows self.new).may_give };
+        ensures room { (knows self.old).may_give → (knows self.new).may_give }
+        ensures no_room { (knows self.new).may_give → (knows self.old).may_give };
 
     /// Looks at the mark of a pending URB that is not finished.
     fn look(&mut self, urb: UrbId) -> Look
@@ -66,7 +67,8 @@ pub trait Side {
         ensures marked { (why : Why) → result ≡ Marked why → (knows self.new).is_settled urb.0 }
         ensures keeps { Keeps (knows self.old) (knows self.new) }
         ensures none { FinishesNone (knows self.old) (knows self.new) }
-        ensures room { (knows self.old).may_give → (knows self.new).may_give };
+        ensures room { (knows self.old).may_give → (knows self.new).may_give }
+        ensures no_room { (knows self.new).may_give → (knows self.old).may_give };
 
     /// Marks the first pending URB of an endpoint as finished, where no mark stands. An unlink may have come since the URB
     /// was looked at.
@@ -78,10 +80,12 @@ pub trait Side {
         ensures finishes { finishes self.old urb code result self.new }
         ensures pending { SamePending (knows self.old) (knows self.new) }
         ensures settled { result ≡ true → (knows self.new).is_settled urb.0 }
+        ensures unmarked { result ≡ true → (knows self.old).is_marked urb.0 → ⊥ }
         ensures late { result ≡ false → (knows self.new).is_marked urb.0 × FinishesNone (knows self.old) (knows self.new) }
         ensures keeps { Keeps (knows self.old) (knows self.new) }
         ensures only { FinishesOnly urb.0 (knows self.old) (knows self.new) }
-        ensures room { (knows self.old).may_give → (knows self.new).may_give };
+        ensures room { (knows self.old).may_give → (knows self.new).may_give }
+        ensures no_room { (knows self.new).may_give → (knows self.old).may_give };
 
     /// Gives a pending URB back whose status is settled: its finish answered true, or it looked marked.
     fn give(&mut self, urb: UrbId, t: Transfer) -> Self::Given

@@ -50,22 +50,22 @@ impl Device for Silent {
     }
 }
 
-/// A handler that lets all rest.
+/// A handler that lets all rest, and asks nothing. A question that it is handed back it keeps.
 #[derive(Drop)]
 pub struct Resting {
-    pub count: u8,
+    pub question: Option<Transfer>,
 }
 
 impl Handler for Resting {
     ghost asks_with = { λ h. [] };
 
-    ghost question = { λ h. None };
+    ghost question = { λ h. h.question };
 
     ghost completes = { λ old u code t r new. r ≡ Ok action.Rest };
 
     ghost asks = { λ old q new. q ≡ None };
 
-    ghost unasks = { λ old t new. Unit {0} };
+    ghost unasks = { λ old t new. new.question ≡ Some t };
 
     fn complete(&mut self, _urb: UrbId, _code: Code, _t: &Transfer) -> Result<Action, Memory> {
         Ok(Action::Rest)
@@ -75,11 +75,13 @@ impl Handler for Resting {
         None
     }
 
-    fn unask(&mut self, _t: Transfer) {}
+    fn unask(&mut self, t: Transfer) {
+        self.question = Some(t);
+    }
 }
 
-/// Submits three transfers to a device that answers Nak to all, serves, and kills the second URB, which waits. Answers the
-/// kill's result.
+/// One caller submits three transfers to a device that answers Nak to all. They are served, and another caller kills the
+/// second URB, which waits. Answers the kill's result.
 pub fn kill_one_of_three(
     alloc: Global,
     layout: &Layout,
@@ -93,15 +95,15 @@ pub fn kill_one_of_three(
     requires first { HasWindow first × (first.actual ≡ 0) }
     requires second { HasWindow second × (second.actual ≡ 0) }
     requires third { HasWindow third × (third.actual ≡ 0) }
-    ensures ran { IfOk result (λ stopped. (h : List Entry) × IsLegal (machine_for layout.now 1) h × ThreeRun (machine_for layout.now 1) first second third stopped h) }
+    ensures ran { IfOk result (λ stopped. (h : List Entry) × IsLegal (machine_for layout.now 2) h × ThreeRun (machine_for layout.now 2) first second third stopped h) }
 {
     let devices = silent_devices(alloc)?;
-    let mut solo = Solo::new(alloc, layout, 1, devices, Resting { count: 0 })?;
-    let _first = solo.submit(UrbId(0), first);
-    let _second = solo.submit(UrbId(1), second);
-    let _third = solo.submit(UrbId(2), third);
+    let mut solo = Solo::new(alloc, layout, 2, devices, Resting { question: None })?;
+    let _first = solo.submit(2, UrbId(0), first);
+    let _second = solo.submit(2, UrbId(1), second);
+    let _third = solo.submit(2, UrbId(2), third);
     match solo.serve() {
-        Ok(_) => solo.kill(2, UrbId(1)),
+        Ok(_) => solo.kill(3, UrbId(1)),
         Err(memory) => Err(memory),
     }
 }

@@ -9,7 +9,9 @@ ghost use Rattle.usb_machine.specs.Parts.{part_of, held_of, holds_any};
 ghost use Rattle.usb_machine.specs.Legal.{urb_of};
 ghost use Rattle.usb_machine.specs.Calls.{entry, claim_entries, unlink_entries, block_entries, unblock_entries};
 ghost use Rattle.usb_machine.specs.Replay.{machine_for};
-ghost use Rattle.usb_serve.specs.declared.solo.Waited.TheVariants.{Busy};
+ghost use Rattle.usb_serve.specs.declared.solo.Waited.TheVariants.{Idle, Busy};
+ghost use Rattle.usb_serve.specs.declared.solo.Stopped.TheVariants.{Left};
+ghost use Rattle.usb_serve.specs.Plain.{IsPlainAt};
 ghost use Rattle.usb_machine.specs.Shapes.{HasWindow};
 ghost use Rattle.usb_serve.specs.PlainHandlers.{plain_runs};
 ghost use Rattle.usb_serve.specs.Handlers.{refusal_in, HandsBack};
@@ -19,7 +21,7 @@ ghost use Rattle.usb_serve.specs.Solo.{IsSoloAt, IsSolo, Wakes, Falls, StepsBy, 
 use crate::beginning::begin;
 use crate::completing::complete;
 use crate::controller::Controller;
-use crate::handler::{Handler, HandlerSide, Refused};
+use crate::handler::{Handler, Refused};
 use crate::plain_side::{PlainSide, code_in};
 use crate::serve::Turn;
 use std::alloc::Global;
@@ -99,15 +101,16 @@ impl<D: Device, H: Handler> Solo<'_, D, H> {
         self.controller.wake();
     }
 
-    /// Submits a transfer. One that is refused is handed back.
-    pub fn submit(&mut self, urb: UrbId, t: Transfer) -> Result<(), Refused>
+    /// Submits a transfer by this pass. One that is refused is handed back.
+    pub fn submit(&mut self, pass: u32, urb: UrbId, t: Transfer) -> Result<(), Refused>
         requires whole { IsSolo H.asks_with self.old }
+        requires pass { pass < self.old.side.plain.passes }
         requires home { (plain_runs self.old.side).has_home urb.0 }
         requires transfer { HasWindow t × (t.actual ≡ 0) }
-        ensures submitted { (g : Machine) (h : List Entry) → IsSoloAt H.asks_with self.old g h → (es : List Entry) × SubmitsBy urb t (refusal_in result) es × IsSoloAt H.asks_with self.new g (h ++ es) }
+        ensures submitted { (g : Machine) (h : List Entry) → IsSoloAt H.asks_with self.old g h → (es : List Entry) × SubmitsBy pass urb t (refusal_in result) es × IsSoloAt H.asks_with self.new g (h ++ es) }
         ensures back { HandsBack t result }
     {
-        self.side.submit(urb, t)
+        self.side.submit_by(pass, urb, t)
     }
 
     /// Makes a turn. Where it gives an URB back, that is completed by the handler. Answers whether one was given back.
@@ -147,15 +150,16 @@ impl<D: Device, H: Handler> Solo<'_, D, H> {
     // Whether the URB is neither queued nor in a handler.
     fn is_quiet(&self, urb: UrbId) -> bool
         requires { urb.0 < urbs_of self.now.side.plain }
-        ensures { (g : Machine) (h : List Entry) → IsSoloAt H.asks_with self.now g h → (IsTrue result ↔ IsQuiet (state_of h urb.0)) }
+        ensures { (g : Machine) (h : List Entry) → IsPlainAt self.now.side g h → (IsTrue result ↔ IsQuiet (state_of h urb.0)) }
     {
         self.side.plain.may(SERVER, Event::Quiet { urb })
     }
 
-    // Makes turns until the URB is quiet, or one gives nothing back.
+    // Makes turns until the URB, which is not quiet, is so, or one gives nothing back.
     fn turn_until(&mut self, urb: UrbId) -> Result<Waited, Memory>
         requires whole { IsSolo H.asks_with self.old }
         requires urb { urb.0 < urbs_of self.old.side.plain }
+        requires waits { (g : Machine) (h : List Entry) → IsPlainAt self.old.side g h → IsQuiet (state_of h urb.0) → ⊥ }
         ensures waited { (g : Machine) (h : List Entry) → IsSoloAt H.asks_with self.old g h → (es : List Entry) × WaitsBy g h urb.0 result es × IsSoloAt H.asks_with self.new g (h ++ es) }
         ensures ends { (f : Falls D.replies D.items_used H.completes H.asks H.unasks H.asks_with) → f.left self.old < 2 ^ 64 - 1 → result ≡ Ok Busy → ⊥ }
         ensures counts { urbs_of self.new.side.plain ≡ urbs_of self.old.side.plain }
@@ -263,6 +267,7 @@ impl<D: Device, H: Handler> Solo<'_, D, H> {
         requires can { CanStop H.asks_with self.old pass urb.0 }
         ensures poisoned { (g : Machine) (h : List Entry) → IsSoloAt H.asks_with self.old g h → MayStop g h pass urb.0 → (es : List Entry) × PoisonsBy g h pass urb.0 result es × IsSoloAt H.asks_with self.new g (h ++ es) }
         ensures counts { urbs_of self.new.side.plain ≡ urbs_of self.old.side.plain }
+        ensures never_idle { result ≡ Ok (Left Idle) → ⊥ }
     {
         self.begin_stop(pass, urb);
         match self.wait_for(urb) {
@@ -278,6 +283,7 @@ impl<D: Device, H: Handler> Solo<'_, D, H> {
         requires urb { urb.0 < urbs_of self.old.side.plain }
         requires can { CanStop H.asks_with self.old pass urb.0 }
         ensures killed { (g : Machine) (h : List Entry) → IsSoloAt H.asks_with self.old g h → MayStop g h pass urb.0 → (es : List Entry) × KillsBy g h pass urb.0 result es × IsSoloAt H.asks_with self.new g (h ++ es) }
+        ensures never_idle { result ≡ Ok (Left Idle) → ⊥ }
     {
         match self.poison(pass, urb) {
             Err(memory) => Err(memory),

@@ -9,7 +9,7 @@ use Rattle.usb_serve.specs.declared.handler.Outcome.{Outcome}
 use Rattle.usb_serve.specs.Completing.{rested, again, asking, lacking, Again, Acts}
 use Rattle.usb_serve.proofs.completing.act.Goals as goal
 
--- what a handler answered to the URB and the code that a giveback tells
+-- what a handler answered to the URB and the status that came back
 answered : {H : Type 0} (completes : H → UrbId → Code → Transfer → Result Action Memory → H → Type 0) (h g : H) (u v : UrbId) (c d : Code) (t : Transfer) (r : Result Action Memory) → v ≡ u → d ≡ c → completes h v d t r g → completes h u c t r g
 answered completes h g u v c d t r e f is = subst (λ c. completes h u c t r g) f (subst (λ u. completes h u d t r g) e is)
 

@@ -166,3 +166,16 @@ returns-clause-room c few = let w = c.requires.whole in let g = w.0 in let h = w
     let after = subst (λ (a : Answer). Stands now g (h ++ record { pass = SERVER; event = Take e; answer = a; carried = None } ∷ [])) answered (c.step.ensures.stands g h None at.stands record { pass = at.passes; may = (refl, some); room = tt; carries = refl }) in
     let urbs = c.step.ensures.counts.0 in let ends = c.step.ensures.counts.1 in
     let slot = take_slot old now g h at e u split.1 line near after urbs ends in let t = c.in-Some.ensures.line slot.row slot.at in let s = c.take_line.new.self in λ v st there. few v st (sym (take_state old now g h at e u split.1 line near after urbs ends v) ∙ (ap (λ p. slice_get p.states.items v) (sym c.in-Some.ensures.same.0) ∙ there))
+
+pub returns-clause-no_room : goal.returns-clause-no_room
+returns-clause-no_room c few = let w = c.requires.whole in let g = w.0 in let h = w.1 in let at = w.2 in let old = c.args.self.now in let now = c.step.new.self in let e = c.args.ep in let u = c.urb_in-urb.result in
+    let near : e < ends_of old.plain = let a = at.stands.ends in let b = ap (λ (l : Layout). length l.shapes) at.layout in omega (arith, c.requires.end) in
+    let some : 0 < length (line_of g h e) = let a = c.waiting.ensures g h at.stands in omega (arith, c.if-waiting-eq0.false) in
+    let split = first_split (line_of g h e) some in
+    let clear : c.step.result ≡ Urb record { 0 = split.0 } = c.step.ensures.answer g h at.stands ∙ ap first_of split.2 in
+    let is : u ≡ record { 0 = split.0 } = c.urb_in-urb.ensures ∙ ap answered_urb clear in
+    let answered : c.step.result ≡ Urb u = clear ∙ ap Urb (sym is) in
+    let line : line_of g h e ≡ u.0 ∷ split.1 = split.2 ∙ ap (λ (w : UrbId). w.0 ∷ split.1) (sym is) in
+    let after = subst (λ (a : Answer). Stands now g (h ++ record { pass = SERVER; event = Take e; answer = a; carried = None } ∷ [])) answered (c.step.ensures.stands g h None at.stands record { pass = at.passes; may = (refl, some); room = tt; carries = refl }) in
+    let urbs = c.step.ensures.counts.0 in let ends = c.step.ensures.counts.1 in
+    let slot = take_slot old now g h at e u split.1 line near after urbs ends in let t = c.in-Some.ensures.line slot.row slot.at in let s = c.take_line.new.self in λ v st there. few v st (ap (λ p. slice_get p.states.items v) c.in-Some.ensures.same.0 ∙ (take_state old now g h at e u split.1 line near after urbs ends v ∙ there))
