@@ -1,5 +1,5 @@
 -- A turn that gives nothing back leaves an URB that was rejected and unlinked out of the queues.
-use Rattle.std.proofs.Common.{ℕ, zero, suc, ◌≡◌, ◌≢◌, ◌+◌, ◌<◌, Bool, true, false, cond, eqb, Some, None, List, [], ◌∷◌, ◌++◌, length, refl, sym, ap, ◌∙◌, subst, arith, eq-eqb, ne_eqb, true≢false, append_assoc, append-nil, filter, Option}
+use Rattle.std.proofs.Common.{ℕ, zero, suc, ◌≡◌, ◌<◌, Bool, true, false, cond, Some, None, List, [], ◌∷◌, ◌++◌, length, refl, sym, ap, ◌∙◌, subst, arith, eq-eqb, ne_eqb, true≢false, append_assoc, append-nil, filter, Option}
 use Rattle.std.specs.Prelude.{slice_get, All}
 use Rattle.std.proofs.lemmas.Option.{get_or_from_slice_get}
 use Rattle.std.proofs.lemmas.List.Elements.{All-head, All-tail}
@@ -14,7 +14,6 @@ use Rattle.usb_machine.specs.State.{is_clear}
 use Rattle.usb_machine.specs.History.{Machine, home_of, state_of, line_of, pending_of, without_first, or_zero}
 use Rattle.usb_machine.specs.Legal.{times}
 use Rattle.usb_machine.specs.Parts.{part_of, owes}
-use Rattle.usb_machine.specs.Plain.{ends_of}
 use Rattle.usb_machine.proofs.Places.{placed, bit}
 use Rattle.usb_machine.proofs.Totals.{total_same, total_none}
 use Rattle.usb_machine.proofs.Rooms.{queued_has_home, home_below}
@@ -23,8 +22,8 @@ use Rattle.usb_serve.specs.declared.controller.Held.{Held}
 use Rattle.usb_serve.specs.declared.controller.EndRow.{EndRow}
 use Rattle.usb_serve.specs.declared.controller.Controller.{Controller}
 use Rattle.usb_serve.specs.declared.plain_side.PlainSide.{PlainSide}
-use Rattle.usb_serve.specs.Held.{held_in, held_at, urbs_in, IsHeld, Agrees}
-use Rattle.usb_serve.specs.Plain.{plain_knows, mark_at, pending_in, IsPlainAt}
+use Rattle.usb_serve.specs.Held.{held_in, urbs_in, IsHeld, Agrees}
+use Rattle.usb_serve.specs.Plain.{plain_knows, mark_at, IsPlainAt}
 use Rattle.usb_serve.specs.Bridge.{took, takes_of, takes_below, marked_below, is_unlinked}
 use Rattle.usb_serve.proofs.Lookups.{there}
 use Rattle.usb_serve.proofs.Plains.{pending_is, mark_is}
