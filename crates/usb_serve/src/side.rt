@@ -1,3 +1,4 @@
+//! The side of a host that its server works on: what a controller asks of it, and what it answers.
 ghost use Rattle.std.specs.Prelude.{ℕ, ◌≡◌, ◌<◌, [], ◌∷◌, ◌++◌, List, length, Option, IfSome, IsTrue, ◌↔◌, true, false, Contains};
 ghost use Rattle.usb_types.specs.declared.urb.UrbId.{UrbId};
 ghost use Rattle.usb_types.specs.declared.urb.Why.{Why};
