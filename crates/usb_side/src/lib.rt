@@ -1,0 +1,12 @@
+//! A host with its server, as the controller's side and as the handlers' side.
+#![tactic(auto)]
+
+mod giving;
+mod handlers;
+mod side;
+mod step;
+
+pub use giving::give_back;
+pub use handlers::HostGiven;
+pub use side::HostSide;
+pub use step::{one_step, turn_once};
