@@ -176,10 +176,8 @@ impl Acm {
         ensures ok { OnOk result (self.new ≡ record self.old { events = self.old.events ++ event ∷ [] }) }
         ensures err { OnErr result (self.new ≡ self.old) }
     {
-        match self.events.push(event) {
-            Ok(()) => Ok(()),
-            Err(_) => Err(Memory),
-        }
+        self.events.push(event)?;
+        Ok(())
     }
 }
 

@@ -53,14 +53,12 @@ impl Board {
         ensures { IfOk result (λ board. board ≡ record { devices = devices; firsts = firsts; bindings = [] }) }
     {
         let room = devices.items().len() * NUMBERS;
-        match Vec::with_capacity(alloc, room) {
-            Ok(bindings) => Ok(Board {
-                devices,
-                firsts,
-                bindings,
-            }),
-            Err(_) => Err(Memory),
-        }
+        let bindings = Vec::with_capacity(alloc, room)?;
+        Ok(Board {
+            devices,
+            firsts,
+            bindings,
+        })
     }
 
     /// The device with this number, where it was enumerated.

@@ -45,10 +45,7 @@ impl UrbPool {
     pub fn new(alloc: Global, limit: u32) -> Result<UrbPool, Memory>
         ensures { IfOk result (λ pool. pool ≡ replicate limit None) }
     {
-        match UrbPool::filled(alloc, limit) {
-            Ok(pool) => Ok(pool),
-            Err(_) => Err(Memory),
-        }
+        Ok(UrbPool::filled(alloc, limit)?)
     }
 
     fn filled(alloc: Global, limit: u32) -> Result<UrbPool, AllocError>
@@ -108,12 +105,10 @@ impl UrbPool {
         ensures { IfOk result (λ layout. (layout.homes ≡ up_to_last self) × (layout.shapes ≡ shapes)) }
     {
         let count = used(&self.homes);
-        match self.homes[..count].to_vec(alloc) {
-            Ok(homes) => Ok(Layout {
-                homes: List::of(homes),
-                shapes,
-            }),
-            Err(_) => Err(Memory),
-        }
+        let homes = self.homes[..count].to_vec(alloc)?;
+        Ok(Layout {
+            homes: List::of(homes),
+            shapes,
+        })
     }
 }

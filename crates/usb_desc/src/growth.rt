@@ -22,10 +22,8 @@ pub fn tail_of(alloc: Global, piece: &[u8], standard: usize) -> Result<Buf, Memo
     requires { standard ≤ length piece.now }
     ensures { IfOk result (λ tail. tail ≡ drop standard piece.now) }
 {
-    match piece[standard..].to_vec(alloc) {
-        Ok(bytes) => Ok(Buf::of(bytes)),
-        Err(_) => Err(Memory),
-    }
+    let bytes = piece[standard..].to_vec(alloc)?;
+    Ok(Buf::of(bytes))
 }
 
 fn end_of(alloc: Global, piece: &[u8]) -> Result<End, Memory>

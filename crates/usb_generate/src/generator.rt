@@ -50,10 +50,8 @@ fn name(alloc: Global, letter: u8, number: u32) -> Result<Buf, Memory>
 fn packet(alloc: Global, len: u32, byte: u8) -> Result<Buf, Memory>
     ensures { IfOk result (λ packet. packet ≡ replicate len byte) }
 {
-    match vec![in alloc; byte; len as usize] {
-        Ok(bytes) => Ok(Buf::of(bytes)),
-        Err(_) => Err(Memory),
-    }
+    let bytes = vec![in alloc; byte; len as usize]?;
+    Ok(Buf::of(bytes))
 }
 
 fn item(alloc: Global, draws: &mut Draws, byte: u8) -> Result<Item, Memory>

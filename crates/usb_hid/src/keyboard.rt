@@ -135,10 +135,8 @@ impl Keyboard {
         let Some(lights) = t.moved().first() else {
             return Ok(());
         };
-        match self.events.push(Event::Led { lights: *lights }) {
-            Ok(()) => Ok(()),
-            Err(_) => Err(Memory),
-        }
+        self.events.push(Event::Led { lights: *lights })?;
+        Ok(())
     }
 }
 

@@ -59,10 +59,8 @@ pub fn said_of(urbs: &[SceneUrb], urb: u32) -> Said
 pub fn zeros(alloc: Global, len: u32) -> Result<Buf, Memory>
     ensures { IfOk result (λ buf. buf ≡ replicate len 0) }
 {
-    match vec![in alloc; 0u8; len as usize] {
-        Ok(bytes) => Ok(Buf::of(bytes)),
-        Err(_) => Err(Memory),
-    }
+    let bytes = vec![in alloc; 0u8; len as usize]?;
+    Ok(Buf::of(bytes))
 }
 
 // The bytes that a call says.

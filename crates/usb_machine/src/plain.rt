@@ -44,15 +44,12 @@ impl Plain {
         ensures opening { IfOk result (λ plain. Stands plain record { layout = layout.now; passes = passes + 2; bottom = SERVER } []) }
         ensures counts { IfOk result (λ plain. (urbs_of plain ≡ length layout.now.homes) × (ends_of plain ≡ length layout.now.shapes)) }
     {
-        match Plain::opened(
+        Ok(Plain::opened(
             alloc,
             layout.homes.items(),
             layout.shapes.items().len(),
             passes + 2,
-        ) {
-            Ok(plain) => Ok(plain),
-            Err(_) => Err(Memory),
-        }
+        )?)
     }
 
     fn opened(

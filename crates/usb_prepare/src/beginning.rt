@@ -113,9 +113,7 @@ impl<'a> EnumeratedDevices<'a> {
         } = one;
         self.attached.push(attached)?;
         self.faults.push(fault)?;
-        match self.devices.push(device) {
-            Ok(()) => Ok(()),
-            Err(_) => Err(Memory),
-        }
+        self.devices.push(device)?;
+        Ok(())
     }
 }

@@ -27,10 +27,7 @@ const ROOM: usize = 65535;
 fn room(alloc: Global) -> Result<Vec<u8>, Memory>
     ensures { IfOk result (λ room. length room.items ≡ 65535) }
 {
-    match vec![in alloc; 0u8; ROOM] {
-        Ok(room) => Ok(room),
-        Err(_) => Err(Memory),
-    }
+    Ok(vec![in alloc; 0u8; ROOM]?)
 }
 
 /// The board and the pool before the first probe, and the endpoints of the host.

@@ -12,10 +12,8 @@ pub(crate) fn id_text(alloc: Global, reply: &[u8]) -> Result<Buf, Memory>
 {
     let end = said_length(reply).min(reply.len());
     let text = if end < 2 { &[] } else { &reply[2..end] };
-    match printed(alloc, text) {
-        Ok(text) => Ok(Buf::of(text)),
-        Err(_) => Err(Memory),
-    }
+    let text = printed(alloc, text)?;
+    Ok(Buf::of(text))
 }
 
 fn said_length(reply: &[u8]) -> usize

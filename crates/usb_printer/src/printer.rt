@@ -131,10 +131,8 @@ impl Printer {
         let Some(event) = event else {
             return Ok(());
         };
-        match self.events.push(event) {
-            Ok(()) => Ok(()),
-            Err(_) => Err(Memory),
-        }
+        self.events.push(event)?;
+        Ok(())
     }
 }
 

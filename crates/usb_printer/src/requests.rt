@@ -42,16 +42,14 @@ pub fn reset_setup(interface: u8) -> [u8; 8]
 pub(crate) fn question(alloc: Global, number: u64, interface: u8) -> Result<Transfer, Memory>
     ensures { IfOk result (λ t. t ≡ question_of number interface) }
 {
-    match vec![in alloc; 0; 1] {
-        Ok(room) => Ok(Transfer {
-            setup: Some(status_setup(interface)),
-            buf: Buf::of(room),
-            from: 0,
-            len: 1,
-            short_not_ok: false,
-            actual: 0,
-            number,
-        }),
-        Err(_) => Err(Memory),
-    }
+    let room = vec![in alloc; 0; 1]?;
+    Ok(Transfer {
+        setup: Some(status_setup(interface)),
+        buf: Buf::of(room),
+        from: 0,
+        len: 1,
+        short_not_ok: false,
+        actual: 0,
+        number,
+    })
 }

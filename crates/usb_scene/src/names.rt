@@ -10,10 +10,7 @@ use usb_types::Memory;
 fn owned(alloc: Global, bytes: &[u8]) -> Result<Vec<u8>, Memory>
     ensures { IfOk result (λ copy. copy.items ≡ bytes.now) }
 {
-    match bytes.to_vec(alloc) {
-        Ok(copy) => Ok(copy),
-        Err(_) => Err(Memory),
-    }
+    Ok(bytes.to_vec(alloc)?)
 }
 
 /// Names with their numbers.

@@ -94,14 +94,12 @@ impl<'a> PlainSide<'a> {
         ensures opens { IfOk result (λ s. IsPlainAt s (machine_for layout.now passes) []) }
     {
         let plain = Plain::new(alloc, layout, passes)?;
-        match empty_slots(alloc, layout.homes.items().len()) {
-            Ok(urbs) => Ok(PlainSide {
-                layout,
-                plain,
-                urbs,
-            }),
-            Err(_) => Err(Memory),
-        }
+        let urbs = empty_slots(alloc, layout.homes.items().len())?;
+        Ok(PlainSide {
+            layout,
+            plain,
+            urbs,
+        })
     }
 }
 

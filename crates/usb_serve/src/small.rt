@@ -111,10 +111,7 @@ pub fn kill_one_of_three(
 fn silent_devices(alloc: Global) -> Result<Vec<Silent>, Memory>
     ensures { IfOk result (λ v. length v.items ≡ 1) }
 {
-    match one_silent(alloc) {
-        Ok(devices) => Ok(devices),
-        Err(_) => Err(Memory),
-    }
+    Ok(one_silent(alloc)?)
 }
 
 fn one_silent(alloc: Global) -> Result<Vec<Silent>, AllocError>

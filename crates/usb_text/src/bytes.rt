@@ -32,10 +32,8 @@ fn equal_bytes(alloc: Global, count: Option<u32>, b: Option<u8>) -> Result<Optio
         return Ok(None);
     };
     if 1 <= count && count <= MOST_BUFFER {
-        match vec![in alloc; b; count as usize] {
-            Ok(bytes) => Ok(Some(Buf::of(bytes))),
-            Err(_) => Err(Memory),
-        }
+        let bytes = vec![in alloc; b; count as usize]?;
+        Ok(Some(Buf::of(bytes)))
     } else {
         Ok(None)
     }

@@ -1,5 +1,5 @@
 -- A table's rows are found by their codes and by their names, and nothing else is found.
-use Rattle.std.proofs.Common.{◌≡◌, ◌≢◌, ℕ, ◌<◌, length, get_or, ◌==◌, Bool, true, false, not, ◌||◌, cond, List, [], ◌∷◌, Some, zero, suc, refl, ap, ◌∙◌, sym, arith}
+use Rattle.std.proofs.Common.{◌≡◌, ℕ, ◌<◌, length, get_or, ◌==◌, Bool, true, false, not, ◌||◌, cond, List, [], ◌∷◌, Some, zero, suc, refl, ap, ◌∙◌, sym, arith}
 use Rattle.std.specs.Prelude.{option_map, bytes_eq, find, nat_le}
 use Rattle.std.specs.List.{list_any, Contains, AllPairs}
 use Rattle.std.proofs.lemmas.Bool.{and_parts, and_from, eqb-true, eq-eqb, le-leb, leb-false, lt-leb}

@@ -27,10 +27,7 @@ impl<V: Kept> Turns<V> {
         requires range { (1 ≤ passes) × (passes ≤ 66) }
         ensures { IfOk result (λ r. (passes_of r.0 ≡ passes) × (first_of r.0 ≡ value) × (r.1.items ≡ dealt (id_of r.0) passes)) }
     {
-        match Turns::open(alloc, value, passes) {
-            Ok(opened) => Ok(opened),
-            Err(_) => Err(Memory),
-        }
+        Ok(Turns::open(alloc, value, passes)?)
     }
 
     fn open(
