@@ -50,7 +50,8 @@ pub fn setup_for(asked: InterfaceOp, interface: u8) -> Option<[u8; 8]>
     }
 }
 
-fn copied(alloc: Global, said: &Option<Buf>) -> Result<Option<Buf>, Memory>
+/// The bytes that a call says.
+pub fn copied(alloc: Global, said: &Option<Buf>) -> Result<Option<Buf>, Memory>
     ensures { IfOk result (λ copy. copy ≡ said.now) }
 {
     match said {

@@ -8,5 +8,5 @@ mod roles;
 
 pub use class_core::{Core, Told};
 pub use handler::{goes_again, with_window};
-pub use interface_ops::{payload_for, setup_for, urb_for, window_for};
+pub use interface_ops::{copied, payload_for, setup_for, urb_for, window_for};
 pub use roles::{has_number, kept_size, role_of};

@@ -71,10 +71,7 @@ impl<'a> Scripted<'a> {
     {
         let mut ends = Vec::new(alloc);
         for _ in 0..ADDRESSES {
-            match ends.push(ScriptedEnd::new(script.answers.items())) {
-                Ok(()) => {}
-                Err(_) => return Err(Memory),
-            }
+            ends.push(ScriptedEnd::new(script.answers.items()))?;
         }
         Ok(Scripted {
             script,

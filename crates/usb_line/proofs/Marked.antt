@@ -5,6 +5,7 @@ use native.Mathlib.Decide.{ℕ_discrete, dec_lt}
 use Rattle.usb_machine.specs.declared.entry.Entry.{Entry}
 use Rattle.usb_machine.specs.History.{Machine, home_of, state_of, pending_of}
 use Rattle.usb_machine.specs.Legal.{IsLegal, times}
+use Rattle.usb_machine.proofs.AtHome.{at_home}
 use Rattle.usb_machine.proofs.Places.{placed}
 use Rattle.usb_scene.specs.declared.scene.Scene.{Scene}
 use Rattle.usb_prepare.specs.Ends.{ends_of}
@@ -24,10 +25,6 @@ times-filter u p (v ∷ us) = go (p v) (times-filter u p us)
     go : (b : Bool) → times u (filter p us) ≤ times u us → times u (cond b (v ∷ filter p us) (filter p us)) ≤ times u (v ∷ us)
     go true l = omega arith
     go false l = omega arith
-
--- an URB that is pending at an endpoint has it as its home
-pub at_home : (g : Machine) (h : List Entry) (e u : ℕ) → IsLegal g h → 0 < times u (pending_of g h e) → e ≡ home_of g u
-at_home g h e u legal l = dite (ℕ_discrete e (home_of g u)) (λ is. is) (λ off. let z = (placed g u h legal).pending_else e off in absurd (omega arith))
 
 pub first_at_home : (g : Machine) (h : List Entry) (e u : ℕ) (others : List ℕ) → IsLegal g h → pending_of g h e ≡ u ∷ others → e ≡ home_of g u
 first_at_home g h e u others legal first = at_home g h e u legal (once u (pending_of g h e) others first)

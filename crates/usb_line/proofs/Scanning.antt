@@ -14,7 +14,8 @@ use Rattle.usb_machine.specs.Plain.{urbs_of, Stands}
 use Rattle.usb_machine.proofs.Rooms.{pending_is_queued, queued_has_home}
 use Rattle.usb_scene.specs.declared.scene.Scene.{Scene}
 use Rattle.usb_line.specs.Line.{is_unlinked, marked_below}
-use Rattle.usb_line.proofs.Marked.{at_home, unlinked}
+use Rattle.usb_machine.proofs.AtHome.{at_home}
+use Rattle.usb_line.proofs.Marked.{unlinked}
 
 -- a reason to unlink is a mark of it
 pub unlinked_why : (m : MarkState) → is_some (why_of m) ≡ is_unlinked m

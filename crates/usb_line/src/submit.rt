@@ -24,7 +24,7 @@ ghost use Rattle.usb_line.specs.Sent.{said_of, sent_by, MayAsk, MaySend, Sent, K
 use crate::run::LineRun;
 use crate::steps::{code_in, enter};
 use std::alloc::Global;
-use usb_class::{payload_for, setup_for, window_for};
+use usb_class::{copied, payload_for, setup_for, window_for};
 use usb_machine::{Event, Plain, Transfer, shape_fault};
 use usb_scene::{Call, Operation, SceneUrb, Target};
 use usb_trace::CallAnswer;
@@ -61,16 +61,6 @@ pub fn zeros(alloc: Global, len: u32) -> Result<Buf, Memory>
 {
     let bytes = vec![in alloc; 0u8; len as usize]?;
     Ok(Buf::of(bytes))
-}
-
-// The bytes that a call says.
-fn copied(alloc: Global, said: &Option<Buf>) -> Result<Option<Buf>, Memory>
-    ensures { IfOk result (λ copy. copy ≡ said.now) }
-{
-    match said {
-        Some(bytes) => Ok(Some(Buf::copy(alloc, bytes.bytes())?)),
-        None => Ok(None),
-    }
 }
 
 // The bytes that an operation sends to an interface, where its call says these.

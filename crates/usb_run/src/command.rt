@@ -1,11 +1,8 @@
 //! The words of a command line.
-ghost use Rattle.std.specs.Prelude.{◌≡◌, ◌≤◌, IsTrue, [], ◌∷◌, map, length, string_bytes};
-ghost use Rattle.std.specs.List.{list_all};
-ghost use Rattle.std.specs.Char.{is_ascii_digit};
-ghost use Rattle.usb_text.specs.Kinds.{digits_value};
+ghost use Rattle.std.specs.Prelude.{◌≡◌, [], ◌∷◌, map, string_bytes};
 ghost use Rattle.usb_run.specs.Words.{command_of, small_number};
 
-use usb_text::is_text;
+use usb_text::{are_digits, digits_value, is_text};
 
 /// What the program is asked for.
 #[derive(Clone, Copy)]
@@ -16,25 +13,6 @@ pub enum Command {
     List,
     /// `gen N`: how the run of the scene of a number goes.
     Gen(u32),
-}
-
-fn are_digits(word: &[u8]) -> bool
-    ensures { result ≡ list_all is_ascii_digit word.now }
-{
-    word.iter().all(|b| b.is_ascii_digit())
-}
-
-// The value of at most ten digits.
-fn digits_value(digits: &[u8]) -> u64
-    requires few { length digits.now ≤ 10 }
-    requires digits { IsTrue (list_all is_ascii_digit digits.now) }
-    ensures { result ≡ digits_value digits.now }
-{
-    let mut value: u64 = 0;
-    for b in digits {
-        value = 10 * value + (*b - b'0') as u64;
-    }
-    value
 }
 
 // One to ten decimal digits, whose value is below 2^32.

@@ -30,7 +30,7 @@ use Rattle.usb_machine.specs.HostCalls.{Took}
 use Rattle.usb_machine.specs.Tokens.{is_finished}
 use Rattle.usb_serve.specs.Knows.{Keeps, FinishesNone, FinishesOnly, Takes, Leaves}
 use Rattle.usb_side.specs.Side.{side_knows}
-use Rattle.usb_side.proofs.Pendings.{times_contains, without_one, first_split}
+use Rattle.usb_machine.proofs.AtHome.{times_contains, without_one, first_split}
 use Rattle.usb_side.proofs.Knowing.{Behind, behind, looked_later, later_pending, later_marked, keeps, none, only, home, seen_pending}
 
 bit_most : (b : Bool) → bit b ≤ 1

@@ -29,7 +29,7 @@ use Rattle.usb_machine.specs.declared.event.Answer.TheVariants.{Code as Status}
 use Rattle.usb_serve.specs.Held.{Agrees}
 use Rattle.usb_serve.specs.declared.controller.Controller.{Controller}
 use Rattle.usb_side.specs.Side.{side_knows}
-use Rattle.usb_side.proofs.Over.{AllAre, all_append}
+use Rattle.usb_machine.proofs.Over.{AllAre, all_append}
 use Rattle.usb_side.proofs.Staying.{IsHandlers, agrees_over}
 use Rattle.std.proofs.Common.{not}
 use Rattle.std.proofs.lemmas.List.Elements.{filter-append}

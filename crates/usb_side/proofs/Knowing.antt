@@ -19,10 +19,10 @@ use Rattle.usb_machine.specs.HostCalls.{IsUrb}
 use Rattle.usb_machine.specs.Tokens.{is_finished}
 use Rattle.usb_machine.specs.Tokens as tokens
 use Rattle.usb_serve.specs.Knows.{Keeps, FinishesNone, FinishesOnly}
-use Rattle.usb_side.proofs.Pendings.{times_contains, at_home}
+use Rattle.usb_machine.proofs.AtHome.{times_contains, at_home}
 use Rattle.usb_side.specs.Side.{side_knows}
-use Rattle.usb_side.proofs.Stands.{open_stays}
-use Rattle.usb_side.proofs.Later.{sent_later}
+use Rattle.usb_machine.proofs.Staying.{open_stays}
+use Rattle.usb_machine.proofs.SentStands.{sent_later}
 
 -- a legal history that begins with what the server's pass has seen, and has the pass's entries as the server's part
 pub record IsLater (g : Machine) (p : Known) (h : List Entry) : Type 0 where

@@ -1,9 +1,5 @@
-pub mod Stands
-pub mod Later
-pub mod Pendings
 pub mod Knowing
 pub mod Calls
-pub mod Marked
 pub mod Over
 pub mod Rows
 pub mod Turned

@@ -13,7 +13,7 @@ use Rattle.usb_serve.specs.declared.controller.Controller.{Controller}
 use Rattle.usb_serve.proofs.Agreeing.{agrees_same}
 use Rattle.usb_side.specs.Side.{side_knows}
 use Rattle.usb_side.proofs.Knowing.{queued}
-use Rattle.usb_side.proofs.Over.{AllAre, NoGive, NoFinish, sent_over, marked_over, finished_over}
+use Rattle.usb_machine.proofs.Over.{AllAre, NoGive, NoFinish, sent_over, marked_over, finished_over}
 
 -- an entry that takes, finishes and gives back nothing
 abbrev pub IsHandlers : Event → Answer → Type 0

@@ -39,17 +39,17 @@ use Rattle.std.specs.Prelude.{option_map}
 use Rattle.std.proofs.lemmas.Option.{slice_get_within}
 use Rattle.usb_side.specs.Round.{TurnGave, GaveBack, is_first}
 use Rattle.usb_side.proofs.Knowing.{Behind, behind, queued, later_pending}
-use Rattle.usb_side.proofs.Later.{sent_later}
-use Rattle.usb_side.proofs.Marked.{mark_same}
+use Rattle.usb_machine.proofs.SentStands.{sent_later}
+use Rattle.usb_machine.proofs.MarkSame.{mark_same}
 use Rattle.usb_side.proofs.Knowing.{later_marked}
 use Rattle.usb_machine.specs.declared.state.Mark.TheVariants.{Finished}
 use Rattle.usb_machine.specs.declared.state.UrbState.{UrbState}
 use Rattle.usb_machine.proofs.Steps.{state_of-snoc, pending_of-snoc}
 use Rattle.usb_xfer.specs.declared.packet.Step.TheVariants.{Ended}
 use Rattle.usb_xfer.specs.Moved.{IsOpen}
-use Rattle.usb_side.proofs.Over.{sent_over, marked_over}
+use Rattle.usb_machine.proofs.Over.{sent_over, marked_over}
 use Rattle.usb_side.proofs.Rows.{row_stays, pass_stays, all_at, in_urbs}
-use Rattle.usb_side.proofs.Over.{AllAre, all_append, NoGive}
+use Rattle.usb_machine.proofs.Over.{AllAre, all_append, NoGive}
 
 first_so : (u : ℕ) (us : List ℕ) → IsFirst u us → is_first u us ≡ true
 first_so u [] f = absurd f

@@ -15,21 +15,23 @@ pub fn is_text(word: &[u8], text: &str) -> bool
     word == text.as_bytes()
 }
 
-fn are_digits(word: &[u8]) -> bool
+/// Whether each byte is a decimal digit.
+pub fn are_digits(word: &[u8]) -> bool
     ensures { result ≡ list_all is_ascii_digit word.now }
 {
     word.iter().all(|b| b.is_ascii_digit())
 }
 
-// The value of a few digits.
-fn digits_value(digits: &[u8]) -> u32
-    requires few { length digits.now ≤ 9 }
+/// The value of at most ten decimal digits.
+pub fn digits_value(digits: &[u8]) -> u64
+    requires few { length digits.now ≤ 10 }
     requires digits { IsTrue (list_all is_ascii_digit digits.now) }
-    ensures { result ≡ digits_value digits.now }
+    ensures value { result ≡ digits_value digits.now }
+    ensures bound { result < 10 ^ length digits.now }
 {
-    let mut value: u32 = 0;
+    let mut value: u64 = 0;
     for b in digits {
-        value = 10 * value + (*b - b'0') as u32;
+        value = 10 * value + (*b - b'0') as u64;
     }
     value
 }
@@ -39,7 +41,7 @@ pub fn number(word: &[u8]) -> Option<u32>
     ensures { result ≡ number_of word.now }
 {
     if 1 <= word.len() && word.len() <= 9 && are_digits(word) {
-        Some(digits_value(word))
+        u32::try_from(digits_value(word)).ok()
     } else {
         None
     }

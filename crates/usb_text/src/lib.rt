@@ -9,7 +9,7 @@ mod print;
 mod words;
 
 pub use bytes::{cut, data_bytes, payload};
-pub use kinds::{address, byte, is_name, is_text, number};
+pub use kinds::{address, are_digits, byte, digits_value, is_name, is_text, number};
 pub use laws::{
     address_reads_back, data_reads_back, number_reads_back, packet_reads_back, words_read_back,
 };

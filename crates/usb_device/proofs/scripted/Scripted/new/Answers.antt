@@ -9,7 +9,7 @@ pub loop-preserved : goal.loop-preserved
 loop-preserved c = record {
   many = search rules;
   fresh = λ a end at. each_more (IsFresh c.args.script.now.answers) c.loop.ends.items c.new.result c.loop.invariant.fresh (subst (λ (l : List Answers). IsFresh l c.new.result) c.items.ensures c.new.ensures) a end
-      (ap (λ l. slice_get l a) (sym c.in-Ok.ensures.items) ∙ at);
+      (ap (λ l. slice_get l a) (sym c.in_ok-push.ensures.items) ∙ at);
 }
 
 pub returns : goal.returns

@@ -9,11 +9,11 @@ use Rattle.usb_machine.proofs.PassRows.{place_below}
 use Rattle.usb_machine.specs.Queues.{no_urbs, homed_at}
 use Rattle.usb_machine.proofs.plain.Plain.new.Goals as goal
 
-pub returns-in-Ok-clause-opening : goal.returns-in-Ok-clause-opening
-returns-in-Ok-clause-opening c =
-    let n = length c.items.result.now in let e = c.in-Ok.ensures in let passes = c.requires.passes in
+pub returns-clause-opening : goal.returns-clause-opening
+returns-clause-opening c =
+    let n = length c.items.result.now in let e = c.in_ok-opened.ensures in let passes = c.requires.passes in
     let count : length (replicate n opening) ≡ n = length-replicate n opening in
-    let urbs : length c.in-Ok.plain.states.items ≡ n = ap length e.states ∙ count in record {
+    let urbs : length c.in_ok-opened.field-0.states.items ≡ n = ap length e.states ∙ count in record {
       legal = empty;
       passes = e.passes;
       homes = e.homes ∙ c.items.ensures;
@@ -26,8 +26,8 @@ returns-in-Ok-clause-opening c =
       most = omega arith;
       rows = λ p u l m.
           let low : u < n = omega arith in let at = place_below (c.args.passes + 2) n p u l low in
-          let place : p * length c.in-Ok.plain.states.items + u ≡ p * n + u = ap (λ k. p * k + u) urbs in
+          let place : p * length c.in_ok-opened.field-0.states.items + u ≡ p * n + u = ap (λ k. p * k + u) urbs in
           let all = length-replicate ((c.args.passes + 2) * n) no_row in
-          ap (slice_get c.in-Ok.plain.rows.items) place ∙ (ap (λ xs. slice_get xs (p * n + u)) e.rows ∙ (slice_get-get_or (replicate ((c.args.passes + 2) * n) no_row) (p * n + u) no_row (omega arith)
+          ap (slice_get c.in_ok-opened.field-0.rows.items) place ∙ (ap (λ xs. slice_get xs (p * n + u)) e.rows ∙ (slice_get-get_or (replicate ((c.args.passes + 2) * n) no_row) (p * n + u) no_row (omega arith)
           ∙ ap Some (get_or-replicate ((c.args.passes + 2) * n) (p * n + u) no_row no_row at)));
     }

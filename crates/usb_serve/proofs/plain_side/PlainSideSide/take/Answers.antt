@@ -14,7 +14,8 @@ use Rattle.usb_machine.specs.declared.transfer.Transfer.{Transfer}
 use Rattle.usb_machine.specs.Shapes.{HasWindow, Accepts}
 use Rattle.usb_machine.specs.Queues.{homed_at}
 use Rattle.usb_serve.specs.Plain.{answered_urb, mark_in, number_in, pending_in}
-use Rattle.usb_serve.proofs.PlainSteps.{first_split, take_slot, take_state, take_pending, take_room, take_unfinished, take_number, take_whole}
+use Rattle.usb_machine.proofs.AtHome.{first_split}
+use Rattle.usb_serve.proofs.PlainSteps.{take_slot, take_state, take_pending, take_room, take_unfinished, take_number, take_whole}
 use Rattle.usb_serve.proofs.plain_side.PlainSideSide.take.Goals as goal
 
 pub take_line-requires : goal.take_line-requires
