@@ -100,7 +100,7 @@ again_packets Acm Ctl status t from len is = absurd cc
 again_packets Printer Ctl status t from len is = absurd cc
 
 -- the window that it then has lies in the buffer
-again_within : (driver : Driver) (role : Role) (status : Code) (t : Transfer) (from len : ℕ) → action_of driver role status t ≡ Again from len → (b : Bool) → is_write role ≡ b → from + len ≤ length t.buf
+pub again_within : (driver : Driver) (role : Role) (status : Code) (t : Transfer) (from len : ℕ) → action_of driver role status t ≡ Again from len → (b : Bool) → is_write role ≡ b → from + len ≤ length t.buf
 again_within driver Write status t from len is true e = (again_writes driver status t from len is).1
 again_within driver role status t from len is true e = absurd (true≢false (sym e))
 again_within driver role status t from len is false e = let p = again_reads driver role status t from len is e in let start = p.0 in let all = p.1 in omega arith
@@ -259,7 +259,7 @@ pub record IsAskable (driver : Driver) (t : Transfer) : Type 0 where
   pub request : IsRequest Ctl t.setup
   pub all : length t.buf ≡ t.from + t.len
 
-question_is : (number interface : ℕ) (t : Transfer) → question_of number interface ≡ t → IsAskable Printer t
+pub question_is : (number interface : ℕ) (t : Transfer) → question_of number interface ≡ t → IsAskable Printer t
 question_is number interface t is = subst (IsAskable Printer) is record {
   printer = refl;
   window = record { window = omega arith; buffer = omega arith; within = omega arith };

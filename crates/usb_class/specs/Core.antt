@@ -1,5 +1,5 @@
 -- What the core of a driver has seen, and what may come to it.
-use Rattle.std.specs.Prelude.{◌≡◌, Bool, true, false, List}
+use Rattle.std.specs.Prelude.{◌≡◌, Bool, true, false, if◌then◌else◌, List, Option, Some, None}
 use Rattle.usb_types.specs.declared.urb.Role.{Role}
 use Rattle.usb_bind.specs.declared.row.Driver.{Driver}
 use Rattle.usb_bind.specs.declared.row.Driver.TheVariants.{Keyboard, Acm, Printer}
@@ -26,10 +26,21 @@ IsCore Acm o done (AcmCore kept) = IsAcmAfter kept done
 IsCore Printer o done (PrinterCore kept) = IsPrinter o done kept
 IsCore driver o done core = ⊥
 
+-- which driver's core it is
+abbrev pub driver_in : Core → Driver
+driver_in (KeyboardCore kept) = Keyboard
+driver_in (AcmCore kept) = Acm
+driver_in (PrinterCore kept) = Printer
+
 -- whether its question is out
 abbrev pub is_asking : Core → Bool
 is_asking (PrinterCore kept) = kept.out
 is_asking core = false
+
+-- its question, where it is out
+abbrev pub open_question : Core → Option Transfer
+open_question (PrinterCore kept) = if kept.out then Some (question_of kept.number kept.interface) else None
+open_question core = None
 
 -- the transfer is its question, which is out
 abbrev pub CanUnask : Core → Transfer → Type 0

@@ -5,3 +5,4 @@ pub mod Handler
 pub mod Told
 pub mod Core
 pub mod InterfaceOps
+pub mod Handlers

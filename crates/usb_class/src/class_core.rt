@@ -6,7 +6,7 @@ ghost use Rattle.usb_class.specs.Origin.{Origin};
 ghost use Rattle.usb_class.specs.Questions.{question_by, still_out};
 ghost use Rattle.usb_class.specs.Handler.{action_of};
 ghost use Rattle.usb_class.specs.Told.{told_of};
-ghost use Rattle.usb_class.specs.Core.{IsCore, is_asking, CanComplete, CanUnask};
+ghost use Rattle.usb_class.specs.Core.{IsCore, driver_in, is_asking, CanComplete, CanUnask};
 
 use std::alloc::Global;
 use usb_acm::{Acm, Event as PortEvent};
@@ -56,12 +56,25 @@ impl Core {
         }
     }
 
+    /// Whether the driver has an URB for this purpose.
+    pub fn has_for(&self, role: Role) -> bool
+        ensures yes { result ≡ true → CanComplete self.now role }
+        ensures no { result ≡ false → CanComplete self.now role → ⊥ }
+    {
+        match self {
+            Core::Keyboard(_) => matches!(role, Role::In | Role::Ctl),
+            Core::Acm(_) => !matches!(role, Role::In),
+            Core::Printer(_) => matches!(role, Role::Write | Role::Ctl),
+        }
+    }
+
     /// Takes note of an URB that came back, and says what becomes of its transfer. A question that came back is no longer
     /// out. An `Err` changes nothing.
     pub fn complete(&mut self, role: Role, code: Code, t: &Transfer) -> Result<Action, Memory>
         requires role { CanComplete self.old role }
         requires window { HasWindow t.now }
         ensures action { (driver : Driver) (o : Origin) (done : List Completion) → IsCore driver o done self.old → IfOk result (λ action. action ≡ action_of driver role code t.now) }
+        ensures own { IfOk result (λ action. action ≡ action_of (driver_in self.old) role code t.now) }
         ensures stands { (driver : Driver) (o : Origin) (done : List Completion) → IsCore driver o done self.old
             → OnOk result (IsCore driver o (done ++ record { role = role; status = code; transfer = t.now } ∷ []) self.new) }
         ensures asking { (driver : Driver) (o : Origin) (done : List Completion) → IsCore driver o done self.old

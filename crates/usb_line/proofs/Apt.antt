@@ -14,7 +14,7 @@ use Rattle.usb_scene.specs.declared.scene.Scene.{Scene}
 use Rattle.usb_scene.specs.WellFormed.{IsWellFormed}
 use Rattle.usb_prepare.specs.Ends.{shape_at}
 use Rattle.usb_prepare.specs.Layout.{urb_count, home}
-use Rattle.usb_trace.specs.declared.owner.Owner.{Owner}
+use Rattle.usb_class.specs.declared.owner.Owner.{Owner}
 use Rattle.usb_trace.specs.Plan.{owner_of}
 use Rattle.usb_line.specs.Between.{IsBare}
 use Rattle.usb_line.specs.Shows.{IsApt}

@@ -10,7 +10,8 @@ use Rattle.usb_machine.specs.Plain.{Stands}
 use Rattle.usb_line.specs.declared.run.UrbRow.{UrbRow}
 use Rattle.usb_trace.specs.Plan.{machine_of}
 use Rattle.usb_line.specs.Line.{Progress, woken}
-use Rattle.usb_line.specs.Shows.{HoldsTransfer, ShowsEnd, ShowsDevices, ShowsCores, Shows}
+use Rattle.usb_line.specs.Shows.{HoldsTransfer, ShowsEnd, ShowsDevices, Shows}
+use Rattle.usb_trace.specs.Handlers.{ShowsCores}
 use Rattle.usb_line.specs.Awake.{awake}
 use Rattle.usb_line.proofs.Asked.{asked_same}
 use Rattle.usb_line.proofs.Devices.{devices_same}
@@ -55,6 +56,6 @@ shows_woken s f run after old plain ends urbs devices cores given down = record 
   each_urb = λ u row at. (let o = old.each_urb u row (ap (λ (l : List UrbRow). slice_get l u) (sym urbs) ∙ at) in record { at = o.at; owner = o.owner; more = o.more; holds = holds_woken s f u row.transfer o.holds });
   unmoved = old.unmoved;
   cores = subst (λ l. ShowsCores s f.rounds l.items) (sym cores) old.cores;
-  came_back = given ∙ old.came_back;
+  came_back = (λ i. (given i).items) ∙ old.came_back;
   host = down ∙ old.host;
 }

@@ -33,13 +33,16 @@ use Rattle.usb_line.specs.declared.run.LineRun.{LineRun}
 use Rattle.usb_prepare.specs.Ends.{shape_at}
 use Rattle.usb_prepare.specs.Layout.{home}
 use Rattle.usb_trace.specs.Plan.{machine_of, owner_of, again_of, DriverQuestion, question_at}
-use Rattle.usb_trace.specs.Run.{Giveback, moved_in, resent, action_by, is_accepted, times_back, rounds_at, is_first, asked_in, asked_of}
+use Rattle.usb_trace.specs.Run.{Giveback, moved_in, resent, is_accepted, times_back, rounds_at, is_first, asked_in, asked_of}
+use Rattle.usb_class.specs.Handlers.{action_by}
 use Rattle.usb_line.specs.Line.{Progress, replies_had, given_back}
 use Rattle.usb_trace.specs.GivebackRow.{giveback_row, acked_at, sent_bytes, IsReceived}
-use Rattle.usb_line.specs.Shows.{IsApt, HoldsTransfer, ShowsUrb, ShowsEnd, ShowsCores, Shows, ShowsDevices, asked_now}
+use Rattle.usb_line.specs.Shows.{IsApt, HoldsTransfer, ShowsUrb, ShowsEnd, Shows, ShowsDevices, asked_now}
+use Rattle.usb_trace.specs.Handlers.{ShowsCores}
 use Rattle.usb_trace.specs.GivebackRow.{Adds}
 use Rattle.usb_line.specs.Back.{is_again, left_by, row_back, CanPoseAny, CanGive}
 use Rattle.usb_trace.proofs.Resent.{resent_unmoved}
+use Rattle.usb_trace.proofs.CoresSeen.{times_push}
 use Rattle.usb_line.proofs.Givebacks.{handled_state, resubmits, IsApart, apart_any, posed, IsPut, accepted_idle, giveback_state, giveback_other, giveback_pending, giveback_sent, giveback_posed, giveback_posed_sent}
 use Rattle.usb_line.proofs.Calm.{calm_giveback, linked_giveback}
 use Rattle.usb_line.proofs.Marked.{first_at_home}
@@ -65,12 +68,6 @@ nothing_moved_by Out max t a = (λ i. record t { actual = none i })
 
 pub nothing_moved : (shape : Shape) (t : Transfer) → t.actual ≡ 0 → t ≡ moved shape t []
 nothing_moved shape t a = nothing_moved_by (direction_of shape t) shape.max t a
-
-times_push : (u : ℕ) (rounds : List Giveback) (r : Giveback) → times_back u (rounds ++ r ∷ []) ≡ times_back u rounds + cond (eqb r.urb u) 1 0
-times_push u rounds r = sum_by-append (λ (q : Giveback). cond {A = ℕ} (eqb q.urb u) 1 0) rounds (r ∷ []) ∙ ap (λ n. times_back u rounds + n) (alone (cond {A = ℕ} (eqb r.urb u) 1 0))
-  where
-    alone : (n : ℕ) → 0 + n ≡ n
-    alone n = omega arith
 
 -- another URB is first with the same replies, or becomes first with none
 others_had : (u v : ℕ) → v ≢ u → (us : List ℕ) (l : List Reply) → cond (is_first v (without u us)) (cond (is_first u us) [] l) [] ≡ cond (is_first v us) l []
@@ -308,7 +305,7 @@ module _ (s : Scene) (f : Progress) (r : Giveback) where
   pub shows_back : CanPoseAny s r.urb (question_at s r.urb) → (run new : LineRun) → Shows s f run → Stands new.plain (machine_of s) k.history → ShowsDevices s k new.devices.items
       → length new.urbs.items ≡ length run.urbs.items → ((u : ℕ) (row : UrbRow) → slice_get new.urbs.items u ≡ Some row → ShowsUrb s k u row)
       → (end : EndRow) → new.ends.items ≡ slice_set run.ends.items e end → ShowsEnd s k e end
-      → ShowsCores s k.rounds new.cores.items → new.given ≡ run.given ++ giveback_row s r ∷ [] → new.down ≡ run.down → Shows s k new
+      → ShowsCores s k.rounds new.cores.items → new.given.items ≡ run.given.items ++ giveback_row s r ∷ [] → new.down ≡ run.down → Shows s k new
   shows_back pose run new old stands devices count urbs end ends here cores told host = record {
     stands = stands;
     calm = calm_giveback s h r pose old.calm;

@@ -18,9 +18,10 @@ use Rattle.usb_scene.specs.WellFormed.{IsWellFormed}
 use Rattle.usb_prepare.specs.Ends.{shape_at}
 use Rattle.usb_prepare.specs.Layout.{home}
 use Rattle.usb_prepare.proofs.Facts as facts
-use Rattle.usb_trace.specs.declared.owner.Owner.{Owner}
+use Rattle.usb_class.specs.declared.owner.Owner.{Owner}
 use Rattle.usb_trace.specs.Plan.{owner_of, origin_of, DriverQuestion, question_with, owner_question, question_at}
-use Rattle.usb_trace.specs.Run.{given_entries, is_accepted, action_by, may_again, question_out, asks_or_rests, acts}
+use Rattle.usb_trace.specs.Run.{given_entries, is_accepted, may_again, question_out, asks_or_rests, acts}
+use Rattle.usb_class.specs.Handlers.{action_by}
 use Rattle.usb_line.specs.Line.{Progress, outcome_by, round_of}
 use Rattle.usb_line.proofs.Givebacks.{posed_by, posed}
 use Rattle.usb_trace.proofs.Owners.{owner_bound, owner_ctl}

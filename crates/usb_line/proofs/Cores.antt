@@ -11,26 +11,20 @@ use Rattle.usb_prepare.specs.Ends.{ends_of}
 use Rattle.usb_prepare.specs.Layout.{urb_count}
 use Rattle.usb_prepare.specs.Prepared.{bindings_of}
 use Rattle.usb_prepare.proofs.Facts.{bound_near, home_near}
-use Rattle.usb_trace.specs.declared.owner.Owner.{Owner}
+use Rattle.usb_class.specs.declared.owner.Owner.{Owner}
 use Rattle.usb_line.specs.declared.run.UrbRow.{UrbRow}
 use Rattle.usb_line.specs.declared.run.LineRun.{LineRun}
 use Rattle.usb_trace.specs.Plan.{owner_of, origin_of}
 use Rattle.usb_trace.specs.Run.{Giveback, done_at}
 use Rattle.usb_line.specs.Line.{Progress}
-use Rattle.usb_line.specs.Shows.{ShowsCores, Shows}
-use Rattle.usb_line.specs.Back.{CanNote, CanAsk}
-use Rattle.usb_line.proofs.Homes.{some_at}
+use Rattle.usb_line.specs.Shows.{Shows}
+use Rattle.usb_trace.specs.Handlers.{ShowsCores}
+use Rattle.usb_line.specs.Back.{CanAsk}
+use Rattle.usb_class.specs.Handlers.{CanNote}
+use Rattle.usb_trace.proofs.CoresSeen.{owner_core}
 use Rattle.usb_trace.proofs.Owners.{owner_bound, owner_ctl}
 
--- the owner of an URB has a core, to which the URB may come back
-owner_core : (s : Scene) (rounds : List Giveback) (cores : List Core) → ShowsCores s rounds cores → (u : ℕ) (o : Option Owner) → owner_of s u ≡ o → CanNote cores o
-owner_core s rounds cores old u None is = tt
-owner_core s rounds cores old u (Some o) is =
-    let b = owner_bound s u o is in
-    let near : o.place < length cores = (let l = slice_get_within (bindings_of s) o.place b.0 b.1 in let all = old.all in omega arith) in
-    let core = some_at cores o.place near in
-    (core.0, core.1, can_complete b.0.driver (origin_of s o.place) (done_at s o.place rounds) core.0 o.role (old.each o.place core.0 b.0 core.1 b.1) (role_is_of_driver u b.0 o.role b.3))
-
+-- an URB's core is there
 pub row_core : (s : Scene) (f : Progress) (run : LineRun) → Shows s f run → (u : ℕ) (row : UrbRow) → slice_get run.urbs.items u ≡ Some row → CanNote run.cores.items row.owner
 row_core s f run old u row at = owner_core s f.rounds run.cores.items old.cores u row.owner (sym (old.each_urb u row at).owner)
 

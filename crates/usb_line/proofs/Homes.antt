@@ -23,13 +23,8 @@ use Rattle.usb_scene.specs.WellFormed.{IsUrb, IsBuffer, IsWellFormed}
 use Rattle.usb_prepare.specs.Ends.{shapes_of, shape_at, is_raw_at}
 use Rattle.usb_prepare.specs.Layout.{urb_count, home}
 use Rattle.usb_prepare.proofs.Facts as facts
+use Rattle.usb_trace.proofs.CoresSeen.{some_at}
 use Rattle.usb_trace.specs.Plan.{machine_of, len_in, buffer_of, interface_payload, interface_window, payload_by, window_by, fresh, submit_fault}
-
--- what stands at a place of a list
-pub some_at : {X : Type 0} (xs : List X) (k : ℕ) → k < length xs → (x : X) × (slice_get xs k ≡ Some x)
-some_at [] k l = absurd (omega arith)
-some_at (x ∷ xs) zero l = (x, refl)
-some_at (x ∷ xs) (suc k) l = some_at xs k (omega arith)
 
 -- what a call sends to an interface is no longer than what it says, or short
 small_for : (asked : InterfaceOp) (said : Option (List ℕ)) → IsBuffer said → IsBuffer (payload_for asked said)

@@ -68,3 +68,4 @@ pub mod Submitted
 pub mod Apt
 pub mod Reading
 pub mod DriverQuestions
+pub mod GivingBack

@@ -31,7 +31,8 @@ use Rattle.usb_trace.specs.Due.{next_due}
 use Rattle.usb_trace.specs.Run.{Giveback, is_first, asked_of, resent}
 use Rattle.usb_line.specs.Line.{Progress, asks, asked_so_far, marked_of, replies_had, had_after, GoesTo, IsServed, round_of, given_back, waits, over, stops}
 use Rattle.usb_machine.specs.Completion.{after_window}
-use Rattle.usb_line.specs.Shows.{HoldsTransfer, ShowsUrb, ShowsEnd, ShowsDevices, asked_now, Shows, turns_left, ShowsCores}
+use Rattle.usb_line.specs.Shows.{HoldsTransfer, ShowsUrb, ShowsEnd, ShowsDevices, asked_now, Shows, turns_left}
+use Rattle.usb_trace.specs.Handlers.{ShowsCores}
 use Rattle.usb_line.specs.Back.{MayGive, GaveBack}
 use Rattle.usb_line.specs.Turned.{code_of, SameElse, TakesOut, MovedOn, FallsAsleep, FirstAwake, EndsAt, PassesBy}
 use Rattle.usb_line.proofs.MayFollow.{once}
@@ -317,7 +318,7 @@ module _ (s : Scene) (good : IsWellFormed s) (f : Progress) (run out_run on : Li
           (λ v row off o. record { at = o.at; owner = o.owner; more = o.more; holds = holds_else v off row.transfer o.holds });
       unmoved = unmoved;
       cores = subst (λ l. ShowsCores s f.rounds l.items) (sym (sleeps.same.cores ∙ mid_same.cores)) old.cores;
-      came_back = sleeps.same.told ∙ (mid_same.told ∙ old.came_back);
+      came_back = (λ i. (sleeps.same.told i).items) ∙ ((λ i. (mid_same.told i).items) ∙ old.came_back);
       host = sleeps.same.host ∙ (mid_same.host ∙ old.host);
     }
 

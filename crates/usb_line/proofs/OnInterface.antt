@@ -27,7 +27,7 @@ use Rattle.usb_prepare.specs.Layout.{urb_count, home, role_urb}
 use Rattle.usb_bind.specs.declared.bound.Bound.{Bound}
 use Rattle.usb_bind.specs.Board.{urb_of_role}
 use Rattle.usb_prepare.proofs.Facts.{bound_near, bound_home_ctl, urb_once}
-use Rattle.usb_trace.specs.declared.owner.Owner.{Owner}
+use Rattle.usb_class.specs.declared.owner.Owner.{Owner}
 use Rattle.usb_trace.specs.declared.rows.HostCall.TheVariants as host_call
 use Rattle.usb_trace.specs.Plan.{owner_of, fresh, submit_fault, interface_setup, setup_by, called_urb, host_call_on, host_call_alone, host_call_on_any, host_call_called, host_call_by, host_call_of}
 use Rattle.usb_line.specs.Between.{IsBare}

@@ -26,14 +26,15 @@ use Rattle.usb_prepare.specs.Prepared.{bindings_of, ids_of}
 use Rattle.usb_trace.specs.Plan.{machine_of, owner_of, again_in, origin_by, origin_of}
 use Rattle.usb_prepare.specs.Below.{below}
 use Rattle.usb_line.specs.Line.{at_start}
-use Rattle.usb_line.specs.Shows.{ShowsUrb, ShowsEnd, ShowsDevice, ShowsCores, Shows, asked_now}
+use Rattle.usb_line.specs.Shows.{ShowsUrb, ShowsEnd, ShowsDevice, Shows, asked_now}
+use Rattle.usb_trace.specs.Handlers.{ShowsCores}
 use Rattle.usb_line.specs.Opened.{IsNewEnd, AreNewEnds, origin_in, IsNewCore, AreNewCores, new_urb}
 use Rattle.usb_trace.specs.Due.{heard_before}
 use Rattle.usb_prepare.specs.Bindings.{HaveHeard}
 use Rattle.usb_prepare.specs.Prepared.{probes_of}
 use Rattle.usb_prepare.specs.Ready.{AreReady}
 use Rattle.usb_line.proofs.Calm.{calm_empty, linked_empty}
-use Rattle.usb_line.proofs.Homes.{some_at}
+use Rattle.usb_trace.proofs.CoresSeen.{some_at}
 use Rattle.usb_line.proofs.Numbered.{number_is}
 use Rattle.usb_prepare.proofs.Below.{map_below-suc, length-map_below, is-map_below}
 use Rattle.usb_prepare.proofs.Facts.{few_ends, unhalted_before}
@@ -178,7 +179,7 @@ module _ (s : Scene) (good : IsWellFormed s) (run : LineRun) (stands : Stands ru
         (cores.each k there.0 core there.1 at).quiet;
   }
 
-  pub shows_start : run.given ≡ [] → run.down ≡ false → Shows s at_start run
+  pub shows_start : run.given.items ≡ [] → run.down ≡ false → Shows s at_start run
   shows_start given down = record {
     stands = stands;
     calm = calm_empty;

@@ -17,7 +17,7 @@ use Rattle.usb_xfer.proofs.Windows.{moved_window}
 use Rattle.usb_class.specs.declared.class_core.Core.{Core}
 use Rattle.usb_scene.specs.declared.scene.Scene.{Scene}
 use Rattle.usb_scene.specs.WellFormed.{IsWellFormed}
-use Rattle.usb_trace.specs.declared.owner.Owner.{Owner}
+use Rattle.usb_class.specs.declared.owner.Owner.{Owner}
 use Rattle.usb_line.specs.declared.run.UrbRow.{UrbRow}
 use Rattle.usb_line.specs.declared.run.LineRun.{LineRun}
 use Rattle.usb_prepare.specs.Ends.{shape_at}
@@ -25,7 +25,8 @@ use Rattle.usb_prepare.specs.Layout.{urb_count, home}
 use Rattle.usb_trace.specs.Plan.{machine_of}
 use Rattle.usb_line.specs.Line.{Progress, replies_had}
 use Rattle.usb_line.specs.Shows.{IsMoving, HoldsTransfer, Shows}
-use Rattle.usb_line.specs.Back.{CanNote, CanAsk, CanGiveBack}
+use Rattle.usb_line.specs.Back.{CanAsk, CanGiveBack}
+use Rattle.usb_class.specs.Handlers.{CanNote}
 use Rattle.usb_line.proofs.Homes.{home_shape}
 use Rattle.usb_prepare.proofs.Facts.{home_near}
 use Rattle.usb_device.proofs.Lookups.{each_set}

@@ -18,7 +18,7 @@ use Rattle.usb_scene.specs.WellFormed.{IsWellFormed}
 use Rattle.usb_prepare.specs.Prepared.{probes_of, bindings_of}
 use Rattle.usb_prepare.specs.Layout.{urb_count}
 use Rattle.usb_prepare.proofs.Facts.{bound_near, urb_once}
-use Rattle.usb_trace.specs.declared.owner.Owner.{Owner}
+use Rattle.usb_class.specs.declared.owner.Owner.{Owner}
 use Rattle.usb_trace.specs.Plan.{owner_from, owner_of, origin_of, DriverQuestion, question_with, owner_question, question_at}
 use Rattle.usb_machine.specs.Completion.{after_window}
 use Rattle.usb_line.specs.Shows.{IsApt, rank}

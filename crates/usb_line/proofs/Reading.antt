@@ -21,7 +21,7 @@ use Rattle.usb_prepare.specs.Ends.{shape_at, shapes_of}
 use Rattle.usb_prepare.specs.Layout.{home}
 use Rattle.usb_prepare.proofs.Below.{length-below}
 use Rattle.usb_prepare.proofs.Facts.{home_near}
-use Rattle.usb_trace.specs.declared.owner.Owner.{Owner}
+use Rattle.usb_class.specs.declared.owner.Owner.{Owner}
 use Rattle.usb_line.specs.declared.run.UrbRow.{UrbRow}
 use Rattle.usb_line.specs.declared.run.LineRun.{LineRun}
 use Rattle.usb_trace.specs.Plan.{is_numbered, number_of, owner_of, reading, read_by, read_of, main_pass}

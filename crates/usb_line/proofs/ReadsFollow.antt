@@ -21,7 +21,7 @@ use Rattle.usb_scene.specs.WellFormed.{IsWellFormed}
 use Rattle.usb_prepare.specs.Below.{below}
 use Rattle.usb_prepare.specs.Ends.{shapes_of, shape_at}
 use Rattle.usb_prepare.specs.Layout.{urb_count, home}
-use Rattle.usb_trace.specs.declared.owner.Owner.{Owner}
+use Rattle.usb_class.specs.declared.owner.Owner.{Owner}
 use Rattle.usb_trace.specs.Plan.{machine_of, owner_of, number_of, reading, read_of, main_pass}
 use Rattle.usb_line.specs.Between.{IsBare}
 use Rattle.usb_trace.specs.Run.{submit_of, read_entries_by, read_entries, opening}

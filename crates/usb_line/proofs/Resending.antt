@@ -19,9 +19,10 @@ use Rattle.usb_class.proofs.Facts.{again_packets, window_kept}
 use Rattle.usb_scene.specs.declared.scene.Scene.{Scene}
 use Rattle.usb_prepare.specs.Ends.{shape_at}
 use Rattle.usb_prepare.specs.Layout.{home}
-use Rattle.usb_trace.specs.declared.owner.Owner.{Owner}
+use Rattle.usb_class.specs.declared.owner.Owner.{Owner}
 use Rattle.usb_trace.specs.Plan.{owner_of}
-use Rattle.usb_trace.specs.Run.{action_by, resent_as}
+use Rattle.usb_trace.specs.Run.{resent_as}
+use Rattle.usb_class.specs.Handlers.{action_by}
 use Rattle.usb_line.specs.Between.{IsBare}
 use Rattle.usb_line.specs.Shows.{IsApt}
 use Rattle.usb_trace.proofs.Moves.{moved_same}

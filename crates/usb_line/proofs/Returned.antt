@@ -21,7 +21,7 @@ use Rattle.usb_class.proofs.Facts.{is_write}
 use Rattle.usb_machine.specs.History.{state_of}
 use Rattle.usb_scene.specs.declared.scene.Scene.{Scene}
 use Rattle.usb_scene.specs.WellFormed.{IsWellFormed}
-use Rattle.usb_trace.specs.declared.owner.Owner.{Owner}
+use Rattle.usb_class.specs.declared.owner.Owner.{Owner}
 use Rattle.usb_trace.specs.declared.rows.Outcome.{Outcome}
 use Rattle.usb_trace.specs.declared.rows.Outcome.TheVariants as outcome
 use Rattle.usb_line.specs.declared.giveback.PosedQuestion.{PosedQuestion}
@@ -31,16 +31,18 @@ use Rattle.usb_line.specs.declared.run.LineRun.{LineRun}
 use Rattle.usb_prepare.specs.Ends.{shape_at}
 use Rattle.usb_prepare.specs.Layout.{home}
 use Rattle.usb_trace.specs.Plan.{machine_of, owner_of, again_of, DriverQuestion, question_at}
-use Rattle.usb_trace.specs.Run.{Giveback, moved_in, action_by, is_accepted, may_again, question_out, asks_or_rests, given_entries, giveback_entries, times_back}
+use Rattle.usb_trace.specs.Run.{Giveback, moved_in, is_accepted, may_again, question_out, asks_or_rests, given_entries, giveback_entries, times_back}
+use Rattle.usb_class.specs.Handlers.{action_by}
 use Rattle.usb_line.specs.Line.{Progress, outcome_by, round_of, given_back}
 use Rattle.usb_trace.specs.GivebackRow.{giveback_row, brought_bytes, sent_bytes}
 use Rattle.usb_machine.specs.Completion.{after_window}
 use Rattle.usb_line.specs.Shows.{IsApt, HoldsTransfer, ShowsDevices, ShowsUrb, Shows, rank, turns_left}
 use Rattle.usb_trace.specs.GivebackRow.{Adds}
-use Rattle.usb_line.specs.Back.{MayGive, CanPoseAny, is_again, row_back, GaveBack, given_after, Noted, QuestionBy, SettledBy, Settled, IsPosedBy}
+use Rattle.usb_line.specs.Back.{MayGive, CanPoseAny, is_again, row_back, GaveBack, given_after, QuestionBy, SettledBy, Settled, IsPosedBy}
+use Rattle.usb_class.specs.Handlers.{Noted}
 use Rattle.usb_line.specs.Turned.{SameElse}
 use Rattle.usb_trace.proofs.Moves.{moved_same}
-use Rattle.usb_line.proofs.Homes.{some_at}
+use Rattle.usb_trace.proofs.CoresSeen.{some_at, more_left}
 use Rattle.usb_line.proofs.Cores.{row_asks}
 use Rattle.usb_line.proofs.Posing.{asking_apt, asking_weighs}
 use Rattle.usb_line.proofs.Givebacks.{IsApart, posed, IsPut, put, accepted_idle}
@@ -50,9 +52,6 @@ use Rattle.usb_line.proofs.Backs.{again_by, urb_own, urb_else, urb_posed, end_ow
 use Rattle.usb_line.proofs.Falling.{all_left, falls_own, falls_resting, falls_spent, falls_after, falls_asked, again_narrows, job_narrows}
 use Rattle.usb_device.proofs.Lookups.{each_set, looked_up}
 use Rattle.usb_line.proofs.Lookups.{set_read, set_twice}
-
-more_left : (a b : ℕ) → nat_lt b a ≡ nat_lt 0 (a - b)
-more_left a b = grind (arith, nat_tests)
 
 -- what a core took note of, under other names
 noted_as : (old old_as new : List Core) (o o_as : Option Owner) (may : Bool) (status status_as : Code) (t t_as : Transfer) (action : Action) → old ≡ old_as → o ≡ o_as → status ≡ status_as → t ≡ t_as
@@ -114,8 +113,8 @@ module _ (s : Scene) (good : IsWellFormed s) (f : Progress) (run : LineRun) (old
   same_urbs : back.decided.urbs.items ≡ slice_set run.urbs.items u (record row { transfer = None })
   same_urbs = (λ i. (back.decided_so i).urbs.items) ∙ mid_rows
 
-  same_ends : back.decided.ends ≡ run.ends
-  same_ends = (λ i. (back.decided_so i).ends) ∙ mid_ends
+  kept_ends : back.decided.ends.items ≡ slice_set run.ends.items (home s u) (record end { received = back.received })
+  kept_ends = back.ends_so ∙ (λ i. slice_set (mid_ends i).items (row_home i) (record (mid_end i) { received = back.received }))
 
   -- the URB of a question, with its endpoint
   seen : (urb : UrbId) → option_and_then (λ (o : Owner). o.ctl) (owner_of s u) ≡ Some urb → IsSeen s back.decided urb
@@ -128,8 +127,12 @@ module _ (s : Scene) (good : IsWellFormed s) (f : Progress) (run : LineRun) (old
       (λ v x at. (old.each_urb v x at).at) (old.each_urb u row at).at (λ v x off old. old) urb.0 r.0 r.1 in
       let base = some_at run.urbs.items urb.0 asks.0 in
       let near : home s urb.0 < length run.ends.items = subst (λ n. n < length run.ends.items) (old.each_urb urb.0 base.0 base.1).at (asks.2 base.0 base.1) in
-      let e = some_at run.ends.items (home s urb.0) near in
-      (r.0, e.0, r.1, (λ i. slice_get (same_ends i).items (homed i)) ∙ e.1, (old.each_end (home s urb.0) e.0 e.1).is)
+      let many : length back.decided.ends.items ≡ length run.ends.items = ap (λ l. length l) kept_ends ∙ length-set run.ends.items (home s u) (record end { received = back.received }) in
+      let e = some_at back.decided.ends.items (home s urb.0) (subst (λ n. home s urb.0 < n) (sym many) near) in
+      let shaped : e.0.shape ≡ shape_at s (home s urb.0)
+      = each_set (λ d (x : EndRow). x.shape ≡ shape_at s d) (λ d (x : EndRow). x.shape ≡ shape_at s d) run.ends.items back.decided.ends.items (home s u) (record end { received = back.received }) kept_ends
+      (λ d x at. (old.each_end d x at).is) (old.each_end (home s u) end there).is (λ d x off old. old) (home s urb.0) e.0 e.1 in
+      (r.0, e.0, r.1, ap (slice_get back.decided.ends.items) homed ∙ e.1, shaped)
 
   module _ (may : MayGive s f.history r u by) (is : now ≡ moved_in s r) where
     given : (back.status ≡ status) × Stands back.decided.plain (machine_of s) (given_after f.history r)
@@ -197,13 +200,13 @@ module _ (s : Scene) (good : IsWellFormed s) (f : Progress) (run : LineRun) (old
         go (Some q) is = is.1
 
     ends : new.ends.items ≡ slice_set run.ends.items (home s u) (record end { received = back.received })
-    ends = (λ i. (settled_so i).ends.items) ∙ (back.ends_so ∙ (λ i. slice_set (mid_ends i).items (row_home i) (record (mid_end i) { received = back.received })))
+    ends = (λ i. (settled_so i).ends.items) ∙ ((λ i. (back.acted_ends i).items) ∙ ((λ i. (back.asking_so i).ends.items) ∙ kept_ends))
 
     shape : back.end.shape ≡ shape_at s (home s u)
     shape = ap (λ (x : EndRow). x.shape) mid_end ∙ (old.each_end (home s u) end there).is
 
-    told : new.given ≡ run.given ++ giveback_row s r ∷ []
-    told = (λ i. (settled_so i).given) ∙ (back.told ∙ (λ i. mid_same.told i ++ record { urb = u; status = given.0 i; actual = (is i).actual; outcome = done.0 i; bytes = brought_bytes (shape i) (is i) } ∷ []))
+    told : new.given.items ≡ run.given.items ++ giveback_row s r ∷ []
+    told = (λ i. (settled_so i).given.items) ∙ (back.told ∙ (λ i. (mid_same.told i).items ++ record { urb = u; status = given.0 i; actual = (is i).actual; outcome = done.0 i; bytes = brought_bytes (shape i) (is i) } ∷ []))
 
     same_devices : new.devices ≡ mid.devices
     same_devices = (λ i. (settled_so i).devices) ∙ back.same_devices

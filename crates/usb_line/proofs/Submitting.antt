@@ -29,7 +29,8 @@ use Rattle.usb_prepare.specs.Layout.{home}
 use Rattle.usb_trace.specs.Plan.{machine_of}
 use Rattle.usb_trace.specs.Run.{is_first}
 use Rattle.usb_line.specs.Line.{Progress, adds, replies_had}
-use Rattle.usb_line.specs.Shows.{IsApt, HoldsTransfer, ShowsUrb, ShowsDevices, ShowsCores, Shows, asked_now}
+use Rattle.usb_line.specs.Shows.{IsApt, HoldsTransfer, ShowsUrb, ShowsDevices, Shows, asked_now}
+use Rattle.usb_trace.specs.Handlers.{ShowsCores}
 use Rattle.usb_line.specs.Sent.{MaySend, Sent, Keeps}
 use Rattle.usb_line.proofs.MayFollow.{once}
 use Rattle.usb_line.proofs.Marked.{first_at_home}
@@ -109,7 +110,7 @@ module _ (s : Scene) (f : Progress) (run : LineRun) (old : Shows s f run) (p u :
     each_urb = urbs;
     unmoved = λ e none. old.unmoved e (sym (submit_pending p u t h c (machine_of s) e) ∙ none);
     cores = subst (λ v. ShowsCores s k.rounds v.items) (sym cores) old.cores;
-    came_back = given ∙ old.came_back;
+    came_back = (λ i. (given i).items) ∙ old.came_back;
     host = down ∙ old.host;
   }
 

@@ -23,10 +23,11 @@ use Rattle.usb_prepare.specs.Prepared.{bindings_of}
 use Rattle.usb_trace.specs.Plan.{origin_of}
 use Rattle.usb_trace.specs.Run.{Giveback, done_at, told_from, drivers_told}
 use Rattle.usb_line.specs.Line.{Progress}
-use Rattle.usb_line.specs.Shows.{ShowsCores, Shows}
+use Rattle.usb_line.specs.Shows.{Shows}
+use Rattle.usb_trace.specs.Handlers.{ShowsCores}
 use Rattle.usb_trace.specs.Rows.{end_of}
 use Rattle.usb_line.specs.Outcome.{received_at}
-use Rattle.usb_line.proofs.Homes.{some_at}
+use Rattle.usb_trace.proofs.CoresSeen.{some_at}
 use Rattle.usb_line.proofs.Opening.{pairs_longer}
 
 -- a list of which each element is known by its place

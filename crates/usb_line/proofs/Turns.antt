@@ -24,11 +24,12 @@ use Rattle.usb_xfer.specs.declared.packet.Step.TheVariants.{Ended}
 use Rattle.usb_class.proofs.Facts.{unlinked_rests}
 use Rattle.usb_scene.specs.declared.scene.Scene.{Scene}
 use Rattle.usb_scene.specs.WellFormed.{IsWellFormed}
-use Rattle.usb_trace.specs.declared.owner.Owner.{Owner}
+use Rattle.usb_class.specs.declared.owner.Owner.{Owner}
 use Rattle.usb_prepare.specs.Ends.{ends_of, shape_at}
 use Rattle.usb_prepare.specs.Layout.{home}
 use Rattle.usb_trace.specs.Plan.{machine_of, owner_of, DriverQuestion, question_at}
-use Rattle.usb_trace.specs.Run.{Giveback, resent, given_entries, giveback_entries, is_first, is_accepted, action_by, may_again, question_out, asks_or_rests, acts, IsGiveback, IsHandled, asked_in, asked_of}
+use Rattle.usb_trace.specs.Run.{Giveback, resent, given_entries, giveback_entries, is_first, is_accepted, may_again, question_out, asks_or_rests, acts, IsGiveback, IsHandled, asked_in, asked_of}
+use Rattle.usb_class.specs.Handlers.{action_by}
 use Rattle.usb_line.specs.Line.{Progress, with_takes, takes_below, is_unlinked, marked_of, had_after, GoesTo, IsServed, IsMarked, outcome_by, outcome_at, round_of, given_back, replies_had, waits, Passes, none, over, stops, Gives, unlinked, ended, GivesBack, one, IsIdle, asks}
 use Rattle.usb_trace.specs.Due.{next_due}
 use Rattle.usb_line.proofs.Posing.{can_pose_any}

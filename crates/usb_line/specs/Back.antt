@@ -1,5 +1,5 @@
 -- What a giveback needs of the run, and what it does to the run's object.
-use Rattle.std.specs.Prelude.{ℕ, ◌≡◌, ◌≢◌, ◌-◌, ◌<◌, Bool, true, false, if◌then◌else◌, nat_lt, List, [], ◌∷◌, ◌++◌, length, slice_get, slice_set, Option, Some, None, is_some, option_and_then}
+use Rattle.std.specs.Prelude.{ℕ, ◌≡◌, ◌≢◌, ◌-◌, ◌<◌, Bool, true, false, if◌then◌else◌, nat_lt, List, [], ◌∷◌, ◌++◌, length, slice_get, slice_set, Option, Some, None, option_and_then}
 use Rattle.usb_types.specs.declared.errno.Code.{Code}
 use Rattle.usb_types.specs.declared.errno.Code.TheVariants.{Zero}
 use Rattle.usb_machine.specs.declared.state.Mark.TheVariants.{Clear}
@@ -18,16 +18,13 @@ use Rattle.usb_machine.specs.Shapes.{HasWindow, Accepts, shape_fault}
 use Rattle.usb_machine.specs.History.{HasHome, state_of, pending_of}
 use Rattle.usb_machine.specs.Legal.{times}
 use Rattle.usb_machine.specs.Plain.{Stands, urbs_of}
-use Rattle.usb_bind.specs.declared.row.Driver.{Driver}
 use Rattle.usb_class.specs.declared.class_core.Core.{Core}
-use Rattle.usb_machine.specs.Completion.{Completion}
-use Rattle.usb_class.specs.Handler.{action_of, goes_again, window_by}
-use Rattle.usb_class.specs.Origin.{Origin}
-use Rattle.usb_class.specs.Questions.{question_by, still_out}
-use Rattle.usb_class.specs.Core.{IsCore, is_asking, CanComplete, CanUnask}
+use Rattle.usb_class.specs.Handler.{goes_again, window_by}
+use Rattle.usb_class.specs.Core.{CanUnask}
 use Rattle.usb_scene.specs.declared.scene.Scene.{Scene}
-use Rattle.usb_trace.specs.declared.owner.Owner.{Owner}
+use Rattle.usb_class.specs.declared.owner.Owner.{Owner}
 use Rattle.usb_trace.specs.declared.rows.Outcome.{Outcome}
+use Rattle.usb_trace.specs.declared.rows.GivebackRow.{GivebackRow}
 use Rattle.usb_trace.specs.declared.rows.Outcome.TheVariants as outcome
 use Rattle.usb_line.specs.declared.run.UrbRow.{UrbRow}
 use Rattle.usb_line.specs.declared.run.EndRow.{EndRow}
@@ -39,7 +36,8 @@ use Rattle.usb_line.specs.declared.giveback.PosedQuestion.{PosedQuestion}
 use Rattle.usb_line.specs.Between.{IsBare}
 use Rattle.usb_trace.specs.Plan.{machine_of, owner_of, DriverQuestion, question_at}
 use Rattle.usb_line.specs.Line.{submit_answer}
-use Rattle.usb_trace.specs.Run.{Giveback, moved_in, resent, action_by, asked_entries, handled_by, given_entries, giveback_entries}
+use Rattle.usb_trace.specs.Run.{Giveback, moved_in, resent, asked_entries, handled_by, given_entries, giveback_entries}
+use Rattle.usb_class.specs.Handlers.{CanNote, Noted, GaveQuestion, TookBack}
 use Rattle.usb_trace.specs.GivebackRow.{brought_bytes, sent_bytes, IsReceived, Adds}
 
 -- the handler was answered by the gate: of the URB that it submits again in this state, or of the one that a question is asked with
@@ -119,29 +117,6 @@ left_by o action t = None
 abbrev pub row_back : Outcome → Action → Transfer → UrbRow → UrbRow
 row_back o action t row = record row { again = row.again - 1; transfer = left_by o action t }
 
--- an URB's core is there, and knows what the URB is for
-abbrev pub CanNote : List Core → Option Owner → Type 0
-CanNote cores None = Unit {0}
-CanNote cores (Some o) = (core : Core) × (slice_get cores o.place ≡ Some core) × CanComplete core o.role
-
--- a core took note of its URB that came back, whatever it had seen before, and this is what becomes of the transfer
-abbrev pub Took : Core → Owner → Code → Transfer → Action → Core → Type 0
-Took old o status t action new = (driver : Driver) (origin : Origin) (done : List Completion) → IsCore driver origin done old
-    → (action ≡ action_of driver o.role status t) × IsCore driver origin (done ++ record { role = o.role; status = status; transfer = t } ∷ []) new
-    × (is_asking new ≡ still_out driver origin o.role t (is_asking old))
-
--- the core of an URB that a driver has took note of it, and no other
-abbrev pub Noted : List Core → List Core → Option Owner → Bool → Code → Transfer → Action → Type 0
-Noted old new None may status t action = (action ≡ action_by None may status t) × (new ≡ old)
-Noted old new (Some o) may status t action =
-    (core : Core) × (after : Core) × (slice_get old o.place ≡ Some core) × (new ≡ slice_set old o.place after) × Took core o status t action after
-
--- the core of the driver gave its question, if it has one that is not out
-abbrev pub GaveQuestion : Core → Core → Option Transfer → Type 0
-GaveQuestion old new t = (driver : Driver) (origin : Origin) (done : List Completion) → IsCore driver origin done old
-    → (t ≡ (if is_asking old then None else question_by driver origin)) × IsCore driver origin done new
-    × (is_asking new ≡ (if is_some t then true else is_asking old))
-
 -- the question that an action asks, of an URB that a driver has: its core gives it, and no other core changes
 abbrev pub QuestionOf : LineRun → LineRun → Owner → UrbId → Option PosedQuestion → Type 0
 QuestionOf old new o urb None = (core : Core) × (after : Core) × (slice_get old.cores.items o.place ≡ Some core) × (new.cores.items ≡ slice_set old.cores.items o.place after) × GaveQuestion core after None
@@ -206,10 +181,6 @@ abbrev pub Handled : Plain → Plain → ℕ → Bool → ℕ → Option PosedQu
 Handled old new u again number q o = (s : Scene) (h : List Entry) (r : Giveback) → Stands old (machine_of s) (given_after h r) → CanGive s h r → r.urb ≡ u → r.sent.number ≡ number
     → is_again r.outcome ≡ again → ArePosed s r q → (o ≡ r.outcome) × Stands new (machine_of s) (h ++ giveback_entries s r)
 
--- whatever it had seen, and its question is not out
-abbrev pub TookBack : Core → Core → Type 0
-TookBack old new = ((driver : Driver) (origin : Origin) (done : List Completion) → IsCore driver origin done old → IsCore driver origin done new) × (is_asking new ≡ false)
-
 -- the transfer of a question that was accepted is in the row of its URB, and the core of one that was not has it back
 abbrev pub SettledBy : LineRun → LineRun → PosedQuestion → Outcome → Type 0
 SettledBy old new q (outcome.Asked Zero) =
@@ -247,6 +218,41 @@ pub record CanGiveBack (run : LineRun) (u : ℕ) : Type 0 where
   pub core : (row : UrbRow) → slice_get run.urbs.items u ≡ Some row → CanNote run.cores.items row.owner
   pub asks : (row : UrbRow) → slice_get run.urbs.items u ≡ Some row → CanAsk run row.owner
 
+-- the report keeps what came back, for now with a handler that rests it
+pub record Kept (old new : LineRun) (u e : ℕ) (status : Code) (t : Transfer) : Type 0 where
+  pub end : EndRow
+  pub there : slice_get old.ends.items e ≡ Some end
+  pub received : Received
+  pub more : Adds end.received received (sent_bytes end.shape t)
+  pub ends_so : new.ends.items ≡ slice_set old.ends.items e (record end { received = received })
+  pub told : new.given.items ≡ old.given.items ++ record { urb = u; status = status; actual = t.actual; outcome = outcome.Rest; bytes = brought_bytes end.shape t } ∷ []
+
+-- and the core of its driver took note of it
+pub record KeptAndNoted (old new : LineRun) (u : ℕ) (status : Code) (t : Transfer) (action : Action) : Type 0 where
+  pub row : UrbRow
+  pub at : slice_get old.urbs.items u ≡ Some row
+  pub kept : Kept old new u row.home status t
+  pub noted : Noted old.cores.items new.cores.items row.owner (nat_lt 0 row.again) status t action
+
+-- the core gave its question, if the action asks one, the handler did this, and the question is settled
+pub record HandlerRan (old new : LineRun) (u : ℕ) (action : Action) (t : Transfer) : Type 0 where
+  pub did : Outcome
+  pub row : UrbRow
+  pub at : slice_get old.urbs.items u ≡ Some row
+  pub posed_question : Option PosedQuestion
+  pub asking : LineRun
+  pub asked : QuestionBy old asking row.owner action posed_question
+  pub asking_so : asking ≡ record old { cores = asking.cores }
+  pub acted : LineRun
+  pub handled : Handled old.plain acted.plain u (goes_again action) t.number posed_question did
+  pub rows : acted.urbs.items ≡ slice_set old.urbs.items u (row_back did action t row)
+  pub told : (given : List GivebackRow) (kept : GivebackRow) → old.given.items ≡ given ++ kept ∷ [] → acted.given.items ≡ given ++ record kept { outcome = did } ∷ []
+  pub acted_ends : acted.ends ≡ asking.ends
+  pub acted_cores : acted.cores ≡ asking.cores
+  pub host : acted.down ≡ old.down
+  pub same_devices : acted.devices ≡ old.devices
+  pub settled : Settled acted new posed_question did
+
 -- what a giveback of URB u with this transfer changes
 pub record GaveBack (old new : LineRun) (u : ℕ) (ended : Option Code) (t : Transfer) : Type 0 where
   pub status : Code
@@ -257,11 +263,13 @@ pub record GaveBack (old new : LineRun) (u : ℕ) (ended : Option Code) (t : Tra
   pub there : slice_get old.ends.items row.home ≡ Some end
   pub received : Received
   pub action : Action
-  -- the machine gave it back, and its core took note of it
+  -- the machine gave it back, the report keeps what came, and its core took note of it
   pub decided : LineRun
-  pub noted : Noted old.cores.items decided.cores.items row.owner (nat_lt 0 row.again) status t action
   pub given : GaveStatus old.plain decided.plain u ended status
-  pub decided_so : decided ≡ record old { plain = decided.plain; cores = decided.cores }
+  pub more : Adds end.received received (sent_bytes end.shape t)
+  pub ends_so : decided.ends.items ≡ slice_set old.ends.items row.home (record end { received = received })
+  pub noted : Noted old.cores.items decided.cores.items row.owner (nat_lt 0 row.again) status t action
+  pub decided_so : decided ≡ record old { plain = decided.plain; ends = decided.ends; cores = decided.cores; given = decided.given }
   -- the core gave its question
   pub posed_question : Option PosedQuestion
   pub asking : LineRun
@@ -271,11 +279,15 @@ pub record GaveBack (old new : LineRun) (u : ℕ) (ended : Option Code) (t : Tra
   pub acted : LineRun
   pub handled : Handled decided.plain acted.plain u (goes_again action) t.number posed_question did
   pub rows : acted.urbs.items ≡ slice_set old.urbs.items u (row_back did action t row)
-  pub more : Adds end.received received (sent_bytes end.shape t)
-  pub ends_so : acted.ends.items ≡ slice_set old.ends.items row.home (record end { received = received })
-  pub told : acted.given ≡ old.given ++ record { urb = u; status = status; actual = t.actual; outcome = did; bytes = brought_bytes end.shape t } ∷ []
+  pub told : acted.given.items ≡ old.given.items ++ record { urb = u; status = status; actual = t.actual; outcome = did; bytes = brought_bytes end.shape t } ∷ []
+  pub acted_ends : acted.ends ≡ asking.ends
   pub acted_cores : acted.cores ≡ asking.cores
   pub host : acted.down ≡ old.down
   pub same_devices : acted.devices ≡ old.devices
   -- and the question is settled
   pub settled : Settled acted new posed_question did
+
+-- where memory was lacking, the machine gave URB u back, its transfer rests, and its handler ended
+abbrev pub GaveUp : LineRun → LineRun → ℕ → Option Code → Transfer → Type 0
+GaveUp old new u ended t = (s : Scene) (h : List Entry) (r : Giveback) → Stands old.plain (machine_of s) h → MayGive s h r u ended → r.sent.number ≡ t.number → r.outcome ≡ outcome.Rest
+    → Stands new.plain (machine_of s) (h ++ giveback_entries s r)

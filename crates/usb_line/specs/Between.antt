@@ -7,7 +7,7 @@ use Rattle.usb_machine.specs.declared.entry.Entry.{Entry}
 use Rattle.usb_machine.specs.History.{state_of}
 use Rattle.usb_machine.specs.Parts.{part_of, owes}
 use Rattle.usb_class.specs.Handler.{is_ctl}
-use Rattle.usb_trace.specs.declared.owner.Owner.{Owner}
+use Rattle.usb_class.specs.declared.owner.Owner.{Owner}
 
 abbrev pub is_finished : MarkState → Bool
 is_finished Clear = false

@@ -5,7 +5,7 @@ use Rattle.usb_scene.specs.declared.scene.Scene.{Scene}
 use Rattle.usb_scene.specs.WellFormed.{IsWellFormed}
 use Rattle.usb_prepare.specs.Below.{below}
 use Rattle.usb_prepare.specs.Layout.{urb_count}
-use Rattle.usb_trace.specs.declared.owner.Owner.{Owner}
+use Rattle.usb_class.specs.declared.owner.Owner.{Owner}
 use Rattle.usb_line.specs.declared.run.LineRun.{LineRun}
 use Rattle.usb_trace.specs.Plan.{owner_of, number_of, main_pass}
 use Rattle.usb_trace.specs.Run.{read_entries}

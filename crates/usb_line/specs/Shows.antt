@@ -13,9 +13,6 @@ use Rattle.usb_device.specs.declared.scripted.Scripted.{Scripted}
 use Rattle.usb_device.specs.Device.{Call, questions_at, Stands as ScriptStands}
 use Rattle.usb_device.specs.Laws.{sets_halt, NoneHalts}
 use Rattle.usb_device.specs.Left.{items_left}
-use Rattle.usb_bind.specs.declared.bound.Bound.{Bound}
-use Rattle.usb_class.specs.declared.class_core.Core.{Core}
-use Rattle.usb_class.specs.Core.{IsCore, is_asking}
 use Rattle.usb_class.specs.Handler.{is_ctl}
 use Rattle.usb_xfer.specs.Replies.{Question}
 use Rattle.usb_scene.specs.declared.scene.Scene.{Scene}
@@ -25,11 +22,11 @@ use Rattle.usb_line.specs.declared.run.UrbRow.{UrbRow}
 use Rattle.usb_line.specs.declared.run.EndRow.{EndRow}
 use Rattle.usb_line.specs.declared.run.LineRun.{LineRun}
 use Rattle.usb_prepare.specs.Ends.{ends_of, shape_at, is_raw_at}
-use Rattle.usb_prepare.specs.Prepared.{bindings_of}
 use Rattle.usb_prepare.specs.Layout.{urb_count, home}
-use Rattle.usb_trace.specs.declared.owner.Owner.{Owner}
-use Rattle.usb_trace.specs.Plan.{machine_of, owner_of, again_of, origin_of}
-use Rattle.usb_trace.specs.Run.{times_back, Giveback, done_at, is_out, asked_of}
+use Rattle.usb_class.specs.declared.owner.Owner.{Owner}
+use Rattle.usb_trace.specs.Plan.{machine_of, owner_of, again_of}
+use Rattle.usb_trace.specs.Run.{times_back, asked_of}
+use Rattle.usb_trace.specs.Handlers.{ShowsCores}
 use Rattle.usb_line.specs.Between.{IsCalm, AllLinked, IsBare}
 use Rattle.usb_trace.specs.Due.{is_ruled, heard_before}
 use Rattle.usb_trace.specs.GivebackRow.{giveback_row, acked_at, IsReceived}
@@ -95,12 +92,6 @@ pub record ShowsDevices (s : Scene) (f : Progress) (devices : List Scripted) : T
   pub all : length devices ≡ length s.devices
   pub each : (d : ℕ) (scripted : Scripted) → slice_get devices d ≡ Some scripted → ShowsDevice s f d scripted
 
--- the core of each binding has seen what came back of its URBs, and knows whether its question is out
-pub record ShowsCores (s : Scene) (rounds : List Giveback) (cores : List Core) : Type 0 where
-  pub all : length cores ≡ length (bindings_of s)
-  pub each : (k : ℕ) (core : Core) (b : Bound) → slice_get cores k ≡ Some core → slice_get (bindings_of s) k ≡ Some b → IsCore b.driver (origin_of s k) (done_at s k rounds) core
-  pub out : (k : ℕ) (core : Core) → slice_get cores k ≡ Some core → is_asking core ≡ is_out s k rounds
-
 -- the run's object has come as far as f: its machine, its devices, endpoints and URBs, the cores of its drivers, and what came back
 pub record Shows (s : Scene) (f : Progress) (run : LineRun) : Type 0 where
   pub stands : Stands run.plain (machine_of s) f.history
@@ -114,7 +105,7 @@ pub record Shows (s : Scene) (f : Progress) (run : LineRun) : Type 0 where
   pub each_urb : (u : ℕ) (row : UrbRow) → slice_get run.urbs.items u ≡ Some row → ShowsUrb s f u row
   pub unmoved : (e : ℕ) → pending_of (machine_of s) f.history e ≡ [] → f.so_far e ≡ []
   pub cores : ShowsCores s f.rounds run.cores.items
-  pub came_back : run.given ≡ map (giveback_row s) f.rounds
+  pub came_back : run.given.items ≡ map (giveback_row s) f.rounds
   pub host : run.down ≡ f.down
 
 -- the object shows some progress of a scene

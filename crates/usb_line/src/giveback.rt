@@ -1,5 +1,5 @@
 //! The server gives an URB back, and its completion handler runs.
-ghost use Rattle.std.specs.Prelude.{◌≡◌, ◌<◌, ◌++◌, ℕ, List, true, length, slice_get, Some, IfSome, IfOk};
+ghost use Rattle.std.specs.Prelude.{◌≡◌, ◌<◌, ◌++◌, ◌∷◌, [], ℕ, List, true, length, slice_get, Some, IfSome, IfOk, OnErr};
 ghost use Rattle.usb_machine.specs.declared.entry.Entry.{Entry};
 ghost use Rattle.usb_machine.specs.Plain.{Stands, urbs_of};
 ghost use Rattle.usb_machine.specs.Shapes.{HasWindow};
@@ -7,16 +7,18 @@ ghost use Rattle.usb_scene.specs.declared.scene.Scene.{Scene};
 ghost use Rattle.usb_line.specs.declared.run.UrbRow.{UrbRow};
 ghost use Rattle.usb_trace.specs.Plan.{machine_of};
 ghost use Rattle.usb_trace.specs.Run.{Giveback, given_entries};
+ghost use Rattle.usb_trace.specs.declared.rows.GivebackRow.{GivebackRow};
 ghost use Rattle.usb_line.specs.Steps.{AsMany};
-ghost use Rattle.usb_line.specs.Back.{is_again, CanNote, Noted, CanAsk, CanPoseQuestion, QuestionBy, PosesQuestion, CanSettle, Settled, Finished, Acted, Resubmitted, GaveStatus, Handled, left_by, CanGiveBack, GaveBack};
+ghost use Rattle.usb_line.specs.Back.{is_again, CanAsk, CanPoseQuestion, QuestionBy, PosesQuestion, CanSettle, Settled, Finished, Acted, Resubmitted, GaveStatus, Handled, left_by, CanGiveBack, Kept, KeptAndNoted, HandlerRan, GaveBack, GaveUp};
+ghost use Rattle.usb_class.specs.Handlers.{CanNote, Noted};
 
 use crate::run::{LineRun, UrbRow};
 use crate::steps::{code_in, enter};
 use crate::submit::submit_and_link;
 use std::alloc::Global;
-use usb_class::{goes_again, with_window};
+use usb_class::{Owner, goes_again, with_window};
 use usb_machine::{Event, Plain, SERVER, Transfer};
-use usb_trace::{GivebackRow, Outcome, Owner, brought};
+use usb_trace::{GivebackRow, Outcome, brought};
 use usb_types::{Action, Code, Errno, Memory, UrbId};
 
 // Marks the URB as finished where its transfer ended with a code.
@@ -30,7 +32,7 @@ fn finish(plain: &mut Plain, urb: UrbId, ended: Option<Code>)
     }
 }
 
-// GaveStatus the URB back, whose transfer ended with a code or was unlinked. Answers the status.
+// Gives the URB back, whose transfer ended with a code or was unlinked. Answers the status.
 fn give(plain: &mut Plain, urb: UrbId, ended: Option<Code>) -> Code
     requires { urb.0 < urbs_of plain.old }
     ensures counts { AsMany plain.old plain.new }
@@ -133,6 +135,15 @@ fn left_with(outcome: Outcome, action: Action, t: Transfer) -> Option<Transfer>
     }
 }
 
+// The row that was kept last has what the handler did.
+fn fill_in(given: &mut Vec<GivebackRow>, outcome: Outcome)
+    requires { 0 < length given.old.items }
+    ensures { (rows : List GivebackRow) (row : GivebackRow) → given.old.items ≡ rows ++ row ∷ [] → given.new.items ≡ rows ++ record row { outcome = outcome } ∷ [] }
+{
+    let last = given.len() - 1;
+    given[last].outcome = outcome;
+}
+
 impl LineRun<'_> {
     // What becomes of a transfer that came back with this status: what the core of its driver says, and without one it goes
     // on with the same window where it may.
@@ -146,7 +157,7 @@ impl LineRun<'_> {
         requires core { CanNote self.old.cores.items owner }
         requires window { HasWindow t.now }
         ensures noted { IfOk result (λ action. Noted self.old.cores.items self.new.cores.items owner may status t.now action) }
-        ensures rest { IfOk result (λ _. self.new ≡ record self.old { cores = self.new.cores }) }
+        ensures rest { self.new ≡ record self.old { cores = self.new.cores } }
     {
         match owner {
             Some(owner) => self.cores[owner.place as usize].complete(owner.role, status, t),
@@ -193,7 +204,85 @@ impl LineRun<'_> {
         }
     }
 
-    /// GaveStatus the URB back with its transfer, which ended with a code or was unlinked, and runs its handler.
+    // Keeps for the report what came back, but for what its handler does.
+    fn remember(
+        &mut self,
+        alloc: Global,
+        urb: u32,
+        home: u32,
+        status: Code,
+        t: &Transfer,
+    ) -> Result<(), Memory>
+        requires home { home < length self.old.ends.items }
+        requires window { HasWindow t.now }
+        ensures kept { IfOk result (λ _. Kept self.old self.new urb home status t.now) }
+        ensures rest { self.new ≡ record self.old { ends = self.new.ends; given = self.new.given } }
+    {
+        let shape = self.ends[home as usize].shape;
+        let bytes = brought(alloc, &shape, t)?;
+        self.ends[home as usize].received.note(&shape, t)?;
+        self.given.push(GivebackRow {
+            urb,
+            status,
+            actual: t.actual,
+            outcome: Outcome::Rest,
+            bytes,
+        })?;
+        Ok(())
+    }
+
+    // Keeps what came back, and lets the core of its driver take note.
+    fn note(
+        &mut self,
+        alloc: Global,
+        urb: u32,
+        status: Code,
+        t: &Transfer,
+    ) -> Result<Action, Memory>
+        requires there { urb < length self.old.urbs.items }
+        requires home { (row : UrbRow) → slice_get self.old.urbs.items urb ≡ Some row → row.home < length self.old.ends.items }
+        requires core { (row : UrbRow) → slice_get self.old.urbs.items urb ≡ Some row → CanNote self.old.cores.items row.owner }
+        requires window { HasWindow t.now }
+        ensures noted { IfOk result (λ action. KeptAndNoted self.old self.new urb status t.now action) }
+        ensures rest { self.new ≡ record self.old { ends = self.new.ends; cores = self.new.cores; given = self.new.given } }
+    {
+        let row = &self.urbs[urb as usize];
+        let (home, owner, again) = (row.home, row.owner, row.again);
+        self.remember(alloc, urb, home, status, t)?;
+        self.decide(owner, again > 0, status, t)
+    }
+
+    // Runs the handler of an URB that came back, whose core took note of it and said this.
+    fn run_handler(&mut self, urb: u32, action: Action, t: Transfer)
+        requires there { urb < length self.old.urbs.items }
+        requires known { urb < urbs_of self.old.plain }
+        requires kept { 0 < length self.old.given.items }
+        requires core { (row : UrbRow) → slice_get self.old.urbs.items urb ≡ Some row → CanPoseQuestion self.old.cores.items row.owner }
+        requires asks { (row : UrbRow) → slice_get self.old.urbs.items urb ≡ Some row → CanAsk self.old row.owner }
+        ensures ran { HandlerRan self.old self.new urb action t }
+    {
+        let row = &self.urbs[urb as usize];
+        let (home, owner, again) = (row.home, row.owner, row.again);
+        let posed_question = self.posed_question(owner, action);
+        let outcome = handle(
+            &mut self.plain,
+            UrbId(urb),
+            goes_again(action),
+            t.number,
+            &posed_question,
+        );
+        fill_in(&mut self.given, outcome);
+        self.urbs[urb as usize] = UrbRow {
+            home,
+            owner,
+            again: again.saturating_sub(1),
+            transfer: left_with(outcome, action, t),
+        };
+        self.settle(posed_question, outcome);
+    }
+
+    /// Gives the URB back with its transfer, which ended with a code or was unlinked, and runs its handler. Where memory is lacking
+    /// the transfer rests, and the handler ends.
     pub fn give_back(
         &mut self,
         alloc: Global,
@@ -204,36 +293,18 @@ impl LineRun<'_> {
         requires can { CanGiveBack self.old urb }
         requires window { HasWindow t }
         ensures back { IfOk result (λ _. GaveBack self.old self.new urb ended t) }
+        ensures lacking { OnErr result (GaveUp self.old self.new urb ended t) }
     {
-        let row = &self.urbs[urb as usize];
-        let (home, owner, again) = (row.home, row.owner, row.again);
         let status = give(&mut self.plain, UrbId(urb), ended);
-        let action = self.decide(owner, again > 0, status, &t)?;
-        let posed_question = self.posed_question(owner, action);
-        let outcome = handle(
-            &mut self.plain,
-            UrbId(urb),
-            goes_again(action),
-            t.number,
-            &posed_question,
-        );
-        let shape = self.ends[home as usize].shape;
-        let bytes = brought(alloc, &shape, &t)?;
-        self.ends[home as usize].received.note(&shape, &t)?;
-        self.given.push(GivebackRow {
-            urb,
-            status,
-            actual: t.actual,
-            outcome,
-            bytes,
-        })?;
-        self.urbs[urb as usize] = UrbRow {
-            home,
-            owner,
-            again: again.saturating_sub(1),
-            transfer: left_with(outcome, action, t),
-        };
-        self.settle(posed_question, outcome);
-        Ok(())
+        match self.note(alloc, urb, status, &t) {
+            Ok(action) => {
+                self.run_handler(urb, action, t);
+                Ok(())
+            }
+            Err(memory) => {
+                handle(&mut self.plain, UrbId(urb), false, t.number, &None);
+                Err(memory)
+            }
+        }
     }
 }

@@ -8,7 +8,8 @@ ghost use Rattle.usb_trace.specs.Plan.{calls_of};
 ghost use Rattle.usb_trace.specs.Run.{Giveback, drivers_told};
 ghost use Rattle.usb_trace.specs.Rows.{made_of, outcome_of};
 ghost use Rattle.usb_line.specs.Line.{Progress};
-ghost use Rattle.usb_line.specs.Shows.{Shows, ShowsCores};
+ghost use Rattle.usb_line.specs.Shows.{Shows};
+ghost use Rattle.usb_trace.specs.Handlers.{ShowsCores};
 ghost use Rattle.usb_line.specs.Calls.{IsUnderway};
 ghost use Rattle.usb_line.specs.Outcome.{received_at, IsOutcome};
 
@@ -83,7 +84,7 @@ fn leaves(
         found,
         board,
         made,
-        given: run.given,
+        given: List::of(run.given),
         told,
         ends,
     })

@@ -14,11 +14,11 @@ use crate::reads::{FIRST, numbers};
 use crate::run::{EndRow, LineRun, UrbRow};
 use std::alloc::{AllocError, Global};
 use usb_bind::{Board, Bound};
-use usb_class::Core;
+use usb_class::{Core, Owner};
 use usb_machine::{Plain, Shape};
 use usb_prepare::{Found, Prepared};
 use usb_scene::{Scene, SceneUrb};
-use usb_trace::{Owner, Received, owner_in};
+use usb_trace::{Received, owner_in};
 use usb_types::{Buf, List, Memory, Role, UrbId};
 
 // An endpoint where nothing waits.
@@ -177,7 +177,7 @@ fn started<'a>(
         ends,
         urbs,
         cores,
-        given: List::of(Vec::new(alloc)),
+        given: Vec::new(alloc),
         down: false,
     };
     Ok(OpenedRun { run, found, board })

@@ -9,9 +9,8 @@ ghost use Rattle.usb_line.specs.Reads.{MayRead, CanRead, MayBegin, CanBegin, rea
 use crate::run::LineRun;
 use crate::submit::zeros;
 use std::alloc::Global;
-use usb_class::has_number;
+use usb_class::{Owner, has_number};
 use usb_machine::Transfer;
-use usb_trace::Owner;
 use usb_types::{Memory, UrbId};
 
 /// The number of the first transfer that is a driver's own.

@@ -1,10 +1,9 @@
 //! A run in line order, as far as it has come.
 
-use usb_class::Core;
+use usb_class::{Core, Owner};
 use usb_device::Scripted;
 use usb_machine::{Plain, Shape, Transfer};
-use usb_trace::{GivebackRow, Owner, Received};
-use usb_types::{Buf, List};
+use usb_trace::{GivebackRow, Received};
 
 /// An URB of a run.
 #[derive(Drop)]
@@ -37,7 +36,8 @@ pub struct LineRun<'a> {
     pub urbs: Vec<UrbRow>,
     /// Of each binding, by its place, the core of its driver.
     pub cores: Vec<Core>,
-    pub given: List<GivebackRow>,
+    /// What was given back, in order.
+    pub given: Vec<GivebackRow>,
     /// Whether the host is down.
     pub down: bool,
 }

@@ -12,7 +12,7 @@ use Rattle.usb_scene.specs.declared.scene.SceneDevice.{SceneDevice}
 use Rattle.usb_prepare.specs.Ends.{address_of, attached_as}
 use Rattle.usb_prepare.specs.Enumerated.{attached_of}
 use Rattle.usb_prepare.specs.Prepared.{Probes, board_of, pool_of, enumeration_of, probing_from, probed_device, with_device, probed_from, probes_of, bindings_of}
-use Rattle.usb_trace.specs.declared.owner.Owner.{Owner}
+use Rattle.usb_class.specs.declared.owner.Owner.{Owner}
 use Rattle.usb_trace.specs.Plan.{owner_from, owner_of, owner_question, question_at, read_by, read_of, number_of}
 use Rattle.usb_trace.specs.Run.{urbs_of, read_entries_by, read_entries, opening}
 

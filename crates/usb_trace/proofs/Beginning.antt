@@ -31,7 +31,7 @@ use Rattle.usb_class.specs.Handler.{is_ctl}
 use Rattle.usb_scene.specs.declared.scene.Scene.{Scene}
 use Rattle.usb_prepare.specs.Ends.{shape_at}
 use Rattle.usb_prepare.specs.Layout.{home}
-use Rattle.usb_trace.specs.declared.owner.Owner.{Owner}
+use Rattle.usb_class.specs.declared.owner.Owner.{Owner}
 use Rattle.usb_trace.specs.declared.rows.HostCall.{HostCall}
 use Rattle.usb_trace.specs.declared.rows.HostCall.TheVariants as host_call
 use Rattle.usb_trace.specs.declared.rows.CallAnswer.{CallAnswer}

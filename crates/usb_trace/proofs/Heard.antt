@@ -11,7 +11,7 @@ use Rattle.usb_bind.specs.declared.bound.Bound.{Bound}
 use Rattle.usb_bind.specs.Board.{urb_of_role}
 use Rattle.usb_scene.specs.declared.scene.Scene.{Scene}
 use Rattle.usb_prepare.specs.Prepared.{bindings_of}
-use Rattle.usb_trace.specs.declared.owner.Owner.{Owner}
+use Rattle.usb_class.specs.declared.owner.Owner.{Owner}
 use Rattle.usb_trace.specs.Plan.{owner_of}
 use Rattle.usb_trace.specs.Run.{Giveback, moved_in, done_in, done_at}
 use Rattle.usb_trace.specs.RunLaws.{is_write, write_of, writes_of, writes_heard, IsForWrites}

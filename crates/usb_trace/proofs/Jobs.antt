@@ -19,11 +19,12 @@ use Rattle.usb_class.specs.Handler.{action_of}
 use Rattle.usb_scene.specs.declared.scene.Scene.{Scene}
 use Rattle.usb_prepare.specs.Ends.{shape_at}
 use Rattle.usb_prepare.specs.Layout.{home}
-use Rattle.usb_trace.specs.declared.owner.Owner.{Owner}
+use Rattle.usb_class.specs.declared.owner.Owner.{Owner}
 use Rattle.usb_trace.specs.declared.rows.Outcome.{Outcome}
 use Rattle.usb_trace.specs.declared.rows.Outcome.TheVariants as outcome
 use Rattle.usb_trace.specs.Plan.{owner_of, DriverQuestion, question_at}
-use Rattle.usb_trace.specs.Run.{CallRecord, Giveback, IsRun, moved_in, resent, giveback_entries, may_again, question_out, asks_or_rests, action_by, acts, IsHandled, AreHandled}
+use Rattle.usb_trace.specs.Run.{CallRecord, Giveback, IsRun, moved_in, resent, giveback_entries, may_again, question_out, asks_or_rests, acts, IsHandled, AreHandled}
+use Rattle.usb_class.specs.Handlers.{action_by}
 use Rattle.usb_trace.specs.RunLaws.{takes_packets, write_of, writes_of, IsRefused, IsCutOff, IsJobInRun, IsForWrites}
 use Rattle.usb_trace.proofs.OneStatus.{sent_window}
 use Rattle.usb_trace.proofs.Carrying.{carry, carried_of, stands, sent_as, none_left}

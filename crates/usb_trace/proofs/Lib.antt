@@ -22,3 +22,5 @@ pub mod Jobs
 pub mod Heard
 pub mod Moves
 pub mod Resent
+pub mod CoresSeen
+pub mod Handling

@@ -19,7 +19,7 @@ use Rattle.usb_prepare.specs.Prepared.{probes_of, bindings_of}
 use Rattle.usb_prepare.specs.Layout.{urb_count, home}
 use Rattle.usb_prepare.proofs.Facts.{brings}
 use Rattle.usb_prepare.proofs.Facts as facts
-use Rattle.usb_trace.specs.declared.owner.Owner.{Owner}
+use Rattle.usb_class.specs.declared.owner.Owner.{Owner}
 use Rattle.usb_trace.specs.Plan.{owner_from, owner_of}
 
 -- what an index past the end of the bindings gives

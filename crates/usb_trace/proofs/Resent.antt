@@ -5,8 +5,9 @@ use Rattle.usb_types.specs.declared.urb.Action.{Action}
 use Rattle.usb_types.specs.declared.urb.Action.TheVariants.{Rest, Again, Ask}
 use Rattle.usb_machine.specs.declared.transfer.Transfer.{Transfer}
 use Rattle.usb_class.specs.Handler.{window_by}
-use Rattle.usb_trace.specs.declared.owner.Owner.{Owner}
-use Rattle.usb_trace.specs.Run.{action_by, resent_as}
+use Rattle.usb_class.specs.declared.owner.Owner.{Owner}
+use Rattle.usb_trace.specs.Run.{resent_as}
+use Rattle.usb_class.specs.Handlers.{action_by}
 
 -- it has the number of what came back
 pub resent_number : (o : Option Owner) (status : Code) (t : Transfer) → (resent_as o status t).number ≡ t.number

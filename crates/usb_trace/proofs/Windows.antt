@@ -15,10 +15,11 @@ use Rattle.usb_printer.specs.Whole.{IsMovedOn}
 use Rattle.usb_scene.specs.declared.scene.Scene.{Scene}
 use Rattle.usb_prepare.specs.Ends.{shape_at}
 use Rattle.usb_prepare.specs.Layout.{home}
-use Rattle.usb_trace.specs.declared.owner.Owner.{Owner}
+use Rattle.usb_class.specs.declared.owner.Owner.{Owner}
 use Rattle.usb_trace.specs.declared.rows.Outcome.TheVariants as outcome
 use Rattle.usb_trace.specs.Plan.{owner_of, DriverQuestion, question_at}
-use Rattle.usb_trace.specs.Run.{CallRecord, IsRun, times_back, Giveback, moved_in, resent, resent_as, may_again, question_out, asks_or_rests, action_by, acts, IsHandled, AreHandled}
+use Rattle.usb_trace.specs.Run.{CallRecord, IsRun, times_back, Giveback, moved_in, resent, resent_as, may_again, question_out, asks_or_rests, acts, IsHandled, AreHandled}
+use Rattle.usb_class.specs.Handlers.{action_by}
 use Rattle.usb_trace.specs.RunLaws.{takes_packets}
 use Rattle.usb_trace.proofs.Carrying.{sent_on}
 

@@ -6,3 +6,4 @@ pub mod GivebackRow
 pub mod Rows
 pub mod RunLaws
 pub mod ByNumber
+pub mod Handlers

@@ -26,7 +26,8 @@ use Rattle.usb_xfer.specs.Replies.{Reply, Question}
 use Rattle.usb_xfer.specs.declared.packet.Step.TheVariants.{Ended}
 use Rattle.usb_xfer.specs.Moved.{moved, moved_state, IsWhole, question_of}
 use Rattle.usb_machine.specs.Completion.{Completion}
-use Rattle.usb_class.specs.Handler.{action_of, window_by}
+use Rattle.usb_class.specs.Handler.{window_by}
+use Rattle.usb_class.specs.Handlers.{action_by}
 use Rattle.usb_class.specs.Questions.{is_answer}
 use Rattle.usb_class.specs.Told.{told_of}
 use Rattle.usb_class.specs.declared.class_core.Told.{Told}
@@ -34,7 +35,7 @@ use Rattle.usb_bind.specs.declared.bound.Bound.{Bound}
 use Rattle.usb_scene.specs.declared.scene.Scene.{Scene}
 use Rattle.usb_scene.specs.declared.scene.SceneThread.{SceneThread}
 use Rattle.usb_scene.specs.declared.scene.Call.{Call}
-use Rattle.usb_trace.specs.declared.owner.Owner.{Owner}
+use Rattle.usb_class.specs.declared.owner.Owner.{Owner}
 use Rattle.usb_trace.specs.declared.rows.HostCall.{HostCall}
 use Rattle.usb_trace.specs.declared.rows.HostCall.TheVariants as host_call
 use Rattle.usb_trace.specs.declared.rows.CallAnswer.{CallAnswer}
@@ -146,13 +147,6 @@ pub record Giveback : Type 0 where
 -- the transfer that comes back
 abbrev pub moved_in : Scene → Giveback → Transfer
 moved_in s r = moved (shape_at s (home s r.urb)) r.sent r.replies
-
--- what the handler of an URB does with a transfer that came back: what its driver says, and where it is one of the scene's
--- own, it goes on with the same window while it may
-abbrev pub action_by : Option Owner → Bool → Code → Transfer → Action
-action_by None true status t = action.Again t.from t.len
-action_by None false status t = action.Rest
-action_by (Some o) may status t = action_of o.driver o.role status t
 
 -- the transfer that is submitted again, if it is
 abbrev pub resent_as : Option Owner → Code → Transfer → Transfer

@@ -2,6 +2,7 @@
 #![tactic(auto)]
 
 mod call_laws;
+mod handler_laws;
 mod owner;
 mod received;
 mod rows;
@@ -9,7 +10,8 @@ mod run_laws;
 mod thread;
 
 pub use call_laws::a_call_does_what_its_number_says;
-pub use owner::{Owner, owner_in};
+pub use handler_laws::{handlers_begin_with_a_scene, handlers_do_what_the_scene_says};
+pub use owner::owner_in;
 pub use received::{EndReceived, Received, brought};
 pub use rows::{CallAnswer, CallMade, GivebackRow, HostCall, Outcome, RunOutcome};
 pub use run_laws::{

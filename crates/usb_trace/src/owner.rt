@@ -4,23 +4,9 @@ ghost use Rattle.usb_prepare.specs.Prepared.{probes_of};
 ghost use Rattle.usb_scene.specs.declared.scene.Scene.{Scene};
 ghost use Rattle.usb_trace.specs.Plan.{owner_of};
 
-use usb_bind::{Board, Driver};
-use usb_class::{kept_size, role_of};
-use usb_types::{Role, UrbId};
-
-/// The driver that has an URB.
-#[derive(Clone, Copy)]
-pub struct Owner {
-    /// The place of its binding among all.
-    pub place: u32,
-    pub driver: Driver,
-    /// What it has the URB for.
-    pub role: Role,
-    /// Buffer size in bytes of the driver's standing read; None if it has none.
-    pub size: Option<u32>,
-    /// The driver's URB for control transfers, if it has one.
-    pub ctl: Option<UrbId>,
-}
+use usb_bind::Board;
+use usb_class::{Owner, kept_size, role_of};
+use usb_types::Role;
 
 /// The owner of an URB: the first binding that has it.
 pub fn owner_in(board: &Board, urb: u32) -> Option<Owner>

@@ -9,7 +9,7 @@ ghost use Rattle.usb_printer.specs.Whole.{IsMovedOn};
 ghost use Rattle.usb_class.specs.Handler.{action_of};
 ghost use Rattle.usb_prepare.specs.Ends.{shape_at};
 ghost use Rattle.usb_prepare.specs.Layout.{home};
-ghost use Rattle.usb_trace.specs.declared.owner.Owner.{Owner};
+ghost use Rattle.usb_class.specs.declared.owner.Owner.{Owner};
 ghost use Rattle.usb_trace.specs.declared.rows.Outcome.TheVariants.{Again};
 ghost use Rattle.usb_trace.specs.Script.{replies_from};
 ghost use Rattle.usb_trace.specs.Plan.{owner_of, script_of};

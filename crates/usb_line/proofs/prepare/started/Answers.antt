@@ -32,7 +32,7 @@ returns c =
           (subst (λ (l : List Shape). AreNewEnds l c.in-Ok.ends.items) shapes c.in-Ok.ensures)
           p.devices p.heard c.in-Ok-urb_rows.ensures
           (subst (λ (l : List Bound). AreNewCores c.in-Ok-urb_rows.urbs.items l (ids_of c.args.scene.now) cores) bindings told)
-          (c.of.ensures ∙ c.new.ensures.items) refl;
+          c.new.ensures.items refl;
       found = p.found;
       board = p.board;
     }
