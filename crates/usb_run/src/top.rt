@@ -26,7 +26,7 @@ use usb_scene::{Scene, SceneFault, read_scene};
 use usb_summary::summary;
 use usb_types::{Buf, Gate, Memory, Sink, Source};
 
-/// Adds the report of the scene's run in line order. After want of memory the text holds some prefix of it.
+/// Adds the report of the scene's run in line order.
 pub fn serial(alloc: Global, scene: &Scene, text: &mut Buf) -> Result<(), Memory>
     requires { IsWellFormed scene.now }
     ensures { OnOk result (AddsReport scene.now text.old text.new) }
@@ -37,7 +37,7 @@ pub fn serial(alloc: Global, scene: &Scene, text: &mut Buf) -> Result<(), Memory
     Ok(())
 }
 
-/// Adds the list of what the scene's devices are found to be. After want of memory the text holds some prefix of it.
+/// Adds the list of what the scene's devices are found to be.
 pub fn list(alloc: Global, scene: &Scene, text: &mut Buf) -> Result<(), Memory>
     requires { IsWellFormed scene.now }
     ensures { OnOk result (text.new ≡ text.old ++ list_of scene.now) }
