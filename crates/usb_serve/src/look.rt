@@ -7,8 +7,9 @@ ghost use Rattle.usb_serve.specs.Held.{Agrees, CleanIsOpen, serving};
 ghost use Rattle.usb_serve.specs.Looking.{is_clean, has_reason, with_clean, Stays, LooksThrough, LooksEnd, LooksAll, SettledAt};
 
 use crate::controller::{Controller, Held};
-use crate::side::{Look, Side};
+use crate::side::Side;
 use circular_buffer::HeapCircularBuffer;
+use usb_machine::Look;
 
 // Whether the first URB is clean, after a look at the one at this place.
 fn clean_first(clean: bool, place: usize, look: Look) -> bool

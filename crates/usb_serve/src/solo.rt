@@ -14,18 +14,19 @@ ghost use Rattle.usb_serve.specs.declared.solo.Stopped.TheVariants.{Left};
 ghost use Rattle.usb_serve.specs.Plain.{IsPlainAt};
 ghost use Rattle.usb_machine.specs.Shapes.{HasWindow};
 ghost use Rattle.usb_serve.specs.PlainHandlers.{plain_runs};
-ghost use Rattle.usb_serve.specs.Handlers.{refusal_in, HandsBack};
+ghost use Rattle.usb_machine.specs.HostCalls.{HandsBack};
+ghost use Rattle.usb_serve.specs.Handlers.{refusal_in};
 ghost use Rattle.usb_serve.specs.Growing.{TurnsBy, IsCall};
 ghost use Rattle.usb_serve.specs.Solo.{IsSoloAt, IsSolo, Wakes, Falls, StepsBy, ServesBy, WaitsBy, IsQuiet, answered_number, SubmitsBy, MayStop, CanStop, stop_entries, PoisonsBy, KillsBy};
 
 use crate::beginning::begin;
 use crate::completing::complete;
 use crate::controller::Controller;
-use crate::handler::{Handler, Refused};
+use crate::handler::Handler;
 use crate::plain_side::{PlainSide, code_in};
 use crate::serve::Turn;
 use std::alloc::Global;
-use usb_machine::{Answer, Event, Layout, SERVER, Transfer};
+use usb_machine::{Answer, Event, Layout, Refused, SERVER, Transfer};
 use usb_types::{Code, Memory, UrbId, Why};
 use usb_xfer::Device;
 
