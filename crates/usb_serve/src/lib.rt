@@ -4,6 +4,7 @@
 mod beginning;
 mod completing;
 mod controller;
+mod flush;
 mod give;
 mod handler;
 pub mod laws;
