@@ -34,7 +34,9 @@ use Rattle.usb_serve.specs.PlainHandlers.{PlainRests, PlainSubmits, PlainEnds, Q
 use Rattle.usb_serve.specs.Growing.{HandlerAdds, rest_entry, end_entry}
 use Rattle.usb_serve.specs.Growing as adds
 use Rattle.usb_serve.proofs.Lookups.{set_here, set_there}
-use Rattle.usb_serve.proofs.Keeping.{Kept, kept_mild, kept_submit, kept_both, agrees_kept, pending_queued}
+use Rattle.usb_xfer.specs.Replies.{Reply}
+use Rattle.usb_serve.specs.SoFar.{IsSoFar}
+use Rattle.usb_serve.proofs.Keeping.{Kept, kept_mild, kept_submit, kept_both, agrees_kept, so_kept, pending_queued}
 use Rattle.usb_serve.proofs.PlainHandling.{accepts_idle}
 
 -- an event that begins and ends no handler
@@ -175,3 +177,8 @@ module _ {H : Type 0} (completes : H → UrbId → Code → Transfer → Result 
   pub completed_agrees : {D : Type 0} (d : Controller D) (k : List Entry) (u : UrbId) (code : Code) (t : Transfer) (b c : PlainSide) (h i : H) (r : Result Outcome Memory) → IsPlainAt b g k → Completes PlainRests PlainSubmits PlainEnds completes asks unasks u code t b h r c i
       → Agrees (plain_knows b) d → Agrees (plain_knows c) d
   completed_agrees d k u code t b c h i r at x a = let o = completed k u code t b c h i r at x in agrees_kept b c d g k _ at o.at o.kept o.numbers a
+
+  -- and the replies so far are the same
+  pub completed_so : {D : Type 0} (d : Controller D) (so : ℕ → List Reply) (k : List Entry) (u : UrbId) (code : Code) (t : Transfer) (b c : PlainSide) (h i : H) (r : Result Outcome Memory) → IsPlainAt b g k → Completes PlainRests PlainSubmits PlainEnds completes asks unasks u code t b h r c i
+      → Agrees (plain_knows b) d → IsSoFar (plain_knows b) so d.ends.items → IsSoFar (plain_knows c) so d.ends.items
+  completed_so d so k u code t b c h i r at x a s = let o = completed k u code t b c h i r at x in so_kept b c d so g k _ at o.at o.kept o.numbers a s

@@ -30,7 +30,9 @@ use Rattle.usb_serve.specs.Held.{Agrees}
 use Rattle.usb_serve.specs.declared.controller.Controller.{Controller}
 use Rattle.usb_side.specs.Side.{side_knows}
 use Rattle.usb_machine.proofs.Over.{AllAre, all_append}
-use Rattle.usb_side.proofs.Staying.{IsHandlers, agrees_over}
+use Rattle.usb_side.proofs.Staying.{IsHandlers, agrees_over, so_over}
+use Rattle.usb_serve.specs.SoFar.{IsSoFar}
+use Rattle.usb_xfer.specs.Replies.{Reply}
 use Rattle.std.proofs.Common.{not}
 use Rattle.std.proofs.lemmas.List.Elements.{filter-append}
 use Rattle.usb_machine.specs.declared.event.Event.{Event}
@@ -163,6 +165,14 @@ module _ {B : Type 0} (machine : B → Machine) (known : B → Known) (g : Machi
                 (agrees_over g (known s) (known z) server sound w.1.sound w.0 w.1.grown w.2 n l P Q X Y d whole (subst (λ m. Agrees (side_knows m (known s) n P X) d) same a)),
             w.1.machine_so,
           )
+
+      -- and the replies so far are the same
+      pub handler_replies : {D : Type 0} (d : Controller D) (so : ℕ → List Reply) (s z : B) (u : UrbId) (code : Code) (t : Transfer) (h k : K) (r : Result Outcome Memory) → machine s ≡ g → (known s).number ≡ SERVER → Sound g (known s) → Completes rests submits ends completes asks unasks u code t s h r z k
+          → (n l : ℕ) (P Q : Type 0) (X Y : ℕ → Type 0) → Agrees (side_knows (machine s) (known s) n P X) d → IsSoFar (side_knows (machine s) (known s) n P X) so d.ends.items → IsSoFar (side_knows (machine z) (known z) l Q Y) so d.ends.items
+      handler_replies d so s z u code t h k r same server sound c n l P Q X Y a so_far =
+          let w = acts_made s c.middle z u code t h k r same server c.acts c.ended in
+          subst (λ m. IsSoFar (side_knows m (known z) l Q Y) so d.ends.items) (sym w.1.machine_so)
+          (so_over g (known s) (known z) server sound w.1.sound w.0 w.1.grown w.2 n l P Q X Y d so (subst (λ m. Agrees (side_knows m (known s) n P X) d) same a) (subst (λ m. IsSoFar (side_knows m (known s) n P X) so d.ends.items) same so_far))
 
 handlers_given : (xs : List Entry) → AllAre IsHandlers xs → of_givebacks xs ≡ xs
 handlers_given [] a = refl

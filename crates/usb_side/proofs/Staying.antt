@@ -10,7 +10,11 @@ use Rattle.usb_machine.specs.History.{Machine, pending_of, pending_after}
 use Rattle.usb_machine.specs.Fresh.{Known, Grown, Sound}
 use Rattle.usb_serve.specs.Held.{Agrees}
 use Rattle.usb_serve.specs.declared.controller.Controller.{Controller}
+use Rattle.usb_xfer.specs.Replies.{Reply}
+use Rattle.usb_serve.specs.Knows.{Keeps, FinishesNone}
+use Rattle.usb_serve.specs.SoFar.{IsSoFar}
 use Rattle.usb_serve.proofs.Agreeing.{agrees_same}
+use Rattle.usb_serve.proofs.SoFars.{so_same}
 use Rattle.usb_side.specs.Side.{side_knows}
 use Rattle.usb_side.proofs.Knowing.{queued}
 use Rattle.usb_machine.proofs.Over.{AllAre, NoGive, NoFinish, sent_over, marked_over, finished_over}
@@ -63,12 +67,19 @@ module _ (g : Machine) (p q : Known) (server : p.number ≡ SERVER) (sound : Sou
   same_pending : (e : ℕ) → pending_of g q.mine e ≡ pending_of g p.mine e
   same_pending e = ap (λ m. pending_of g m e) grown.mine ∙ (fold-append (λ us (x : Entry). pending_after g e us x.event x.answer) [] p.mine more ∙ pending_over g e (pending_of g p.mine e) more all)
 
+  kept : (m n : ℕ) (P Q : Type 0) (X Y : ℕ → Type 0) → Keeps (side_knows g p m P X) (side_knows g q n Q Y)
+  kept m n P Q X Y = record {
+    layout = refl;
+    sent = λ e v t x y is. (sent_over g p q server sound now more grown v (gives_none v more all) (queued g p server sound e v x)).0 ∙ is;
+    marks = λ e v x y is. marked_over g p q server sound now more grown v (gives_none v more all) (queued g p server sound e v x) is;
+  }
+
+  unfinished : (m n : ℕ) (P Q : Type 0) (X Y : ℕ → Type 0) → FinishesNone (side_knows g p m P X) (side_knows g q n Q Y)
+  unfinished m n P Q X Y = record { none = λ e v x y is. finished_over g p q server sound now more grown v (finishes_none more all) is }
+
   pub agrees_over : {D : Type 0} (m n : ℕ) (P Q : Type 0) (X Y : ℕ → Type 0) (c : Controller D) → Q → Agrees (side_knows g p m P X) c → Agrees (side_knows g q n Q Y) c
-  agrees_over m n P Q X Y c whole a = agrees_same (side_knows g p m P X) (side_knows g q n Q Y) c c a whole
-      (record {
-        layout = refl;
-        sent = λ e v t x y is. (sent_over g p q server sound now more grown v (gives_none v more all) (queued g p server sound e v x)).0 ∙ is;
-        marks = λ e v x y is. marked_over g p q server sound now more grown v (gives_none v more all) (queued g p server sound e v x) is;
-      })
-      (record { none = λ e v x y is. finished_over g p q server sound now more grown v (finishes_none more all) is })
-      refl same_pending
+  agrees_over m n P Q X Y c whole a = agrees_same (side_knows g p m P X) (side_knows g q n Q Y) c c a whole (kept m n P Q X Y) (unfinished m n P Q X Y) refl same_pending
+
+  -- and the replies so far are the same
+  pub so_over : {D : Type 0} (m n : ℕ) (P Q : Type 0) (X Y : ℕ → Type 0) (c : Controller D) (so : ℕ → List Reply) → Agrees (side_knows g p m P X) c → IsSoFar (side_knows g p m P X) so c.ends.items → IsSoFar (side_knows g q n Q Y) so c.ends.items
+  so_over m n P Q X Y c so a s = so_same (side_knows g p m P X) (side_knows g q n Q Y) c a (kept m n P Q X Y) (unfinished m n P Q X Y) same_pending (λ e. ⊥) so s
