@@ -32,7 +32,7 @@ use Rattle.usb_trace.specs.declared.rows.CallAnswer.TheVariants as told
 use Rattle.usb_trace.specs.Plan.{read_of, fresh, submit_fault, main_pass}
 use Rattle.usb_trace.specs.Claims.{claimed_by, numbers_of}
 use Rattle.usb_trace.specs.Run.{urbs_of, submit_of, host_call_entries, read_entries_by, read_entries, opening, seen_quiet}
-use Rattle.usb_line.specs.Line.{Progress, adds, killing, WaitsFor, ClaimsEach, none, one}
+use Rattle.usb_line.specs.Line.{Progress, killing, WaitsFor, ClaimsEach, none, one}
 use Rattle.usb_trace.proofs.Entries.{grows}
 use Rattle.usb_trace.proofs.Claims.{AreNoClaim, AreNoClaim-append, claimed_same, claimed_one, rest_number}
 use Rattle.usb_line.proofs.Serving.{Serves}

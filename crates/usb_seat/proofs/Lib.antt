@@ -1,0 +1,4 @@
+pub mod Submitting
+pub mod Flagging
+pub mod Dealt
+pub mod Seated
