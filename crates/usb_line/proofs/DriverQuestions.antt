@@ -52,7 +52,7 @@ use Rattle.usb_line.specs.Back.{CanAsk, CanPoseQuestion, CanSettle, QuestionOf, 
 use Rattle.usb_class.specs.Handlers.{Noted, GaveQuestion}
 use Rattle.usb_trace.proofs.Owners.{owner_bound}
 use Rattle.usb_device.proofs.Lookups.{each_set}
-use Rattle.usb_trace.proofs.CoresSeen.{write_unanswered, Now, noted_out, unowned, unasked, replaced, replaced_again, settled_cores, at_here, or_false, or_true, noted_action, noted_cores}
+use Rattle.usb_trace.proofs.CoresSeen.{write_unanswered, Now, noted_out, unowned, unasked, replaced, replaced_again, settled_cores, at_here, or_false, or_true}
 
 -- what a giveback asks, and what its driver's core then knows
 pub record IsQuestionPosed (s : Scene) (rounds : List Giveback) (r : Giveback) (asking : LineRun) (q : Option PosedQuestion) : Type 0 where

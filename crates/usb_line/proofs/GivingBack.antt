@@ -1,5 +1,5 @@
 -- A giveback in its two parts: what came back is kept and noted, and then its handler runs, or memory is lacking.
-use Rattle.std.proofs.Common.{ℕ, ◌≡◌, ◌<◌, ◌+◌, Option, Some, None, List, [], ◌∷◌, ◌++◌, length, refl, sym, ap, ◌∙◌, subst, arith, length-append}
+use Rattle.std.proofs.Common.{ℕ, ◌≡◌, ◌<◌, ◌+◌, ◌-◌, zero, suc, get_or, false, Option, Some, None, List, [], ◌∷◌, ◌++◌, length, refl, sym, ap, ◌∙◌, subst, arith, length-append}
 use Rattle.std.specs.Prelude.{slice_get, slice_set}
 use Rattle.std.proofs.lemmas.List.{length-set}
 use Rattle.usb_types.specs.declared.errno.Code.{Code}
@@ -17,13 +17,26 @@ use Rattle.usb_line.specs.declared.run.EndRow.{EndRow}
 use Rattle.usb_line.specs.declared.run.LineRun.{LineRun}
 use Rattle.usb_trace.specs.Plan.{machine_of, question_at}
 use Rattle.usb_trace.specs.Run.{Giveback, giveback_entries}
-use Rattle.usb_line.specs.Back.{MayGive, is_again, row_back, CanAsk, CanPoseQuestion, CanGiveBack, GaveStatus, Handled, IsPosedBy, QuestionBy, KeptAndNoted, HandlerRan, GaveBack, GaveUp}
+use Rattle.usb_line.specs.Back.{MayGive, given_after, is_again, row_back, CanAsk, CanPoseQuestion, CanGiveBack, GaveStatus, Handled, IsPosedBy, QuestionBy, KeptAndNoted, HandlerRan, GaveBack, GaveUp}
 use Rattle.usb_line.proofs.DriverQuestions.{can_ask_kept, noted_there}
 
 -- the transfer rests, and its handler ends
-pub gave_up : (old new : LineRun) (middle : Plain) (u : ℕ) (ended : Option Code) (t : Transfer) (status : Code) (o : Outcome) → GaveStatus old.plain middle u ended status → Handled middle new.plain u false t.number None o → GaveUp old new u ended t
-gave_up old new middle u ended t status o gave handled s h r stands may number rests =
-    (handled s h r (gave s h r stands may).1 may.can may.at number (ap is_again rests) (subst (λ (x : Outcome). IsPosedBy s (question_at s r.urb) x None) (sym rests) refl)).1
+pub gave_up : (old new : LineRun) (middle noted : Plain) (u : ℕ) (ended : Option Code) (t : Transfer) (status : Code) (o : Outcome) → GaveStatus old.plain middle u ended status → noted ≡ middle → Handled noted new.plain u false t.number None o → GaveUp old new u ended t
+gave_up old new middle noted u ended t status o gave same handled s h r stands may number rests =
+    (handled s h r (subst (λ (p : Plain). Stands p (machine_of s) (given_after h r)) (sym same) (gave s h r stands may).1) may.can may.at number (ap is_again rests) (subst (λ (x : Outcome). IsPosedBy s (question_at s r.urb) x None) (sym rests) refl)).1
+
+-- the last item is replaced
+pub last_set : (rows : List GivebackRow) (row x : GivebackRow) (o : Outcome) (k : ℕ) → k ≡ length rows → x ≡ get_or (rows ++ row ∷ []) k x
+    → slice_set (rows ++ row ∷ []) k (record x { outcome = o }) ≡ rows ++ record row { outcome = o } ∷ []
+last_set [] row x o zero e at = (λ i. record (at i) { outcome = o } ∷ [])
+last_set [] row x o (suc k) e at = absurd (omega arith)
+last_set (z ∷ rows) row x o zero e at = absurd (omega arith)
+last_set (z ∷ rows) row x o (suc k) e at = ap (λ l. z ∷ l) (last_set rows row x o k (omega arith) at)
+
+pub last_filled : (given rows : List GivebackRow) (row x : GivebackRow) (o : Outcome) (k : ℕ) → given ≡ rows ++ row ∷ [] → k ≡ length given - 1 → x ≡ get_or given k x → slice_set given k (record x { outcome = o }) ≡ rows ++ record row { outcome = o } ∷ []
+last_filled given rows row x o k is e at =
+    let long : length given ≡ length rows + 1 = ap (λ l. length l) is ∙ length-append rows (row ∷ []) in
+    ap (λ l. slice_set l k (record x { outcome = o })) is ∙ last_set rows row x o k (omega arith) (at ∙ ap (λ l. get_or l k x) is)
 
 -- a list with an item more is not empty
 not_empty : {X : Type 0} (xs ys : List X) (x : X) → ys ≡ xs ++ x ∷ [] → 0 < length ys

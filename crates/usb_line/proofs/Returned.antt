@@ -42,11 +42,11 @@ use Rattle.usb_line.specs.Back.{MayGive, CanPoseAny, is_again, row_back, GaveBac
 use Rattle.usb_class.specs.Handlers.{Noted}
 use Rattle.usb_line.specs.Turned.{SameElse}
 use Rattle.usb_trace.proofs.Moves.{moved_same}
-use Rattle.usb_trace.proofs.CoresSeen.{some_at, more_left}
+use Rattle.usb_trace.proofs.CoresSeen.{some_at, more_left, noted_action, noted_cores}
 use Rattle.usb_line.proofs.Cores.{row_asks}
 use Rattle.usb_line.proofs.Posing.{asking_apt, asking_weighs}
 use Rattle.usb_line.proofs.Givebacks.{IsApart, posed, IsPut, put, accepted_idle}
-use Rattle.usb_line.proofs.DriverQuestions.{IsQuestionPosed, IsSeen, noted_action, noted_cores, posed_none, posed_some}
+use Rattle.usb_line.proofs.DriverQuestions.{IsQuestionPosed, IsSeen, posed_none, posed_some}
 use Rattle.usb_line.proofs.Resending.{resent_action, resent_apt}
 use Rattle.usb_line.proofs.Backs.{again_by, urb_own, urb_else, urb_posed, end_own, shows_back}
 use Rattle.usb_line.proofs.Falling.{all_left, falls_own, falls_resting, falls_spent, falls_after, falls_asked, again_narrows, job_narrows}

@@ -1,3 +1,5 @@
+use Rattle.std.proofs.Common.{ap}
+use Rattle.usb_line.specs.declared.run.LineRun.{LineRun}
 use Rattle.usb_line.proofs.GivingBack.{gave_up, there_still, known_still, kept_one, poses, asks, whole}
 use Rattle.usb_line.proofs.run.LineRun.give_back.Goals as goal
 
@@ -22,4 +24,6 @@ returns-in-Ok-clause-back c =
     c.args.ended c.give-status.ensures.given c.run_handler.new.self c.run_handler.ensures.ran
 
 pub returns-in-Err-clause-lacking : goal.returns-in-Err-clause-lacking
-returns-in-Err-clause-lacking c = gave_up c.args.self.now _ c.give-status.new.plain c.args.urb c.args.ended c.args.t c.give-status.result c.handle.result c.give-status.ensures.given c.handle.ensures.handled
+returns-in-Err-clause-lacking c =
+    gave_up c.args.self.now (record c.note.new.self { plain = c.handle.new.plain }) c.give-status.new.plain c.note.new.self.plain c.args.urb c.args.ended c.args.t c.give-status.result c.handle.result c.give-status.ensures.given
+    (ap (λ (r : LineRun). r.plain) c.note.ensures.rest) c.handle.ensures.handled

@@ -49,25 +49,27 @@ returns c =
     let row = c.index-row.result.now in
     let same : asking ≡ record run { cores = asking.cores } = c.posed_question-posed_question.ensures.rest in
     record {
-      did = c.handle-outcome.result;
-      row = row;
-      at = slice_get-get_or run.urbs.items c.args.urb row c.requires.there ∙ ap Some (sym c.index-row.ensures);
-      posed_question = c.posed_question-posed_question.result;
-      asking = asking;
-      asked = c.posed_question-posed_question.ensures.asked;
-      asking_so = same;
-      acted = record asking {
-        plain = c.handle-outcome.new.plain;
-        urbs = with_item asking.urbs c.args.urb (record { home = row.home; owner = row.owner; again = c.saturating_sub.result; transfer = c.left_with.result });
-        given = c.fill_in.new.given;
+      ran = record {
+        did = c.handle-outcome.result;
+        row = row;
+        at = slice_get-get_or run.urbs.items c.args.urb row c.requires.there ∙ ap Some (sym c.index-row.ensures);
+        posed_question = c.posed_question-posed_question.result;
+        asking = asking;
+        asked = c.posed_question-posed_question.ensures.asked;
+        asking_so = same;
+        acted = record asking {
+          plain = c.handle-outcome.new.plain;
+          urbs = with_item asking.urbs c.args.urb (record { home = row.home; owner = row.owner; again = c.saturating_sub.result; transfer = c.left_with.result });
+          given = c.fill_in.new.given;
+        };
+        handled = subst (λ (p : Plain). Handled p c.handle-outcome.new.plain c.args.urb (goes_again c.args.action) c.args.t.number c.posed_question-posed_question.result c.handle-outcome.result) (ap (λ (r : LineRun). r.plain) same)
+            (subst (λ b. Handled asking.plain c.handle-outcome.new.plain c.args.urb b c.args.t.number c.posed_question-posed_question.result c.handle-outcome.result) c.goes_again.ensures c.handle-outcome.ensures.handled);
+        rows = (λ i. slice_set (same i).urbs.items c.args.urb (record { home = row.home; owner = row.owner; again = c.saturating_sub.ensures i; transfer = c.left_with.ensures i }));
+        told = λ given kept is. c.fill_in.ensures given kept (ap (λ (r : LineRun). r.given.items) same ∙ is);
+        acted_ends = refl;
+        acted_cores = refl;
+        host = ap (λ (r : LineRun). r.down) same;
+        same_devices = ap (λ (r : LineRun). r.devices) same;
+        settled = c.settle.ensures.settled;
       };
-      handled = subst (λ (p : Plain). Handled p c.handle-outcome.new.plain c.args.urb (goes_again c.args.action) c.args.t.number c.posed_question-posed_question.result c.handle-outcome.result) (ap (λ (r : LineRun). r.plain) same)
-          (subst (λ b. Handled asking.plain c.handle-outcome.new.plain c.args.urb b c.args.t.number c.posed_question-posed_question.result c.handle-outcome.result) c.goes_again.ensures c.handle-outcome.ensures.handled);
-      rows = (λ i. slice_set (same i).urbs.items c.args.urb (record { home = row.home; owner = row.owner; again = c.saturating_sub.ensures i; transfer = c.left_with.ensures i }));
-      told = λ given kept is. c.fill_in.ensures given kept (ap (λ (r : LineRun). r.given.items) same ∙ is);
-      acted_ends = refl;
-      acted_cores = refl;
-      host = ap (λ (r : LineRun). r.down) same;
-      same_devices = ap (λ (r : LineRun). r.devices) same;
-      settled = c.settle.ensures.settled;
     }
