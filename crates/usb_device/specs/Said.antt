@@ -1,5 +1,5 @@
 -- What the script replies to a question, before the rules reply where it is left to them.
-use Rattle.std.specs.Prelude.{ℕ, ◌≡◌, ◌+◌, ◌-◌, ◌^◌, min, ◌⊎◌, ◌≢◌, ◌<◌, ◌≤◌, true, List, [], ◌∷◌, ◌++◌, Option, Some, slice_get, slice_set, MatchOption}
+use Rattle.std.specs.Prelude.{ℕ, ◌≡◌, ◌+◌, ◌-◌, ◌⊎◌, ◌≢◌, ◌<◌, ◌≤◌, true, List, [], ◌∷◌, ◌++◌, Option, Some, slice_get, slice_set, MatchOption}
 use Rattle.std.specs.Borrow.{Bor}
 use Rattle.usb_device.specs.Counts.{one_more}
 use Rattle.usb_xfer.specs.Replies.{Reply, Question}

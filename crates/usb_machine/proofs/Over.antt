@@ -1,31 +1,25 @@
 -- What stays over the entries of one pass, with those of others in between.
-use Rattle.std.proofs.Common.{◌≡◌, ◌≢◌, ℕ, ◌<◌, Bool, true, false, cond, eqb, Option, Some, None, List, [], ◌∷◌, ◌++◌, sym, refl, ap, ◌∙◌, subst, arith, append_assoc, append-nil, eq-eqb, ne_eqb, true≢false, fold, Result, Err}
+use Rattle.std.proofs.Common.{◌≡◌, ◌≢◌, ℕ, ◌<◌, Bool, true, false, cond, eqb, List, [], ◌∷◌, ◌++◌, sym, refl, ap, ◌∙◌, subst, arith, append_assoc, append-nil, eq-eqb, ne_eqb, true≢false}
 use Rattle.std.proofs.lemmas.List.{append_cancel_left}
 use Rattle.std.proofs.lemmas.List.Elements.{filter-append}
-use Rattle.std.proofs.lemmas.List.Sums.{fold-append}
 use mathlib.Core.Logic.{dite}
 use native.Mathlib.Decide.{ℕ_discrete}
-use Rattle.usb_types.specs.declared.errno.Errno.{Errno}
-use Rattle.usb_types.specs.declared.errno.Code.{Code}
 use Rattle.usb_machine.specs.declared.entry.TheConstants.{SERVER}
 use Rattle.usb_machine.specs.declared.entry.Entry.{Entry}
 use Rattle.usb_machine.specs.declared.event.Event.{Event}
 use Rattle.usb_machine.specs.declared.event.Event.TheVariants.{Submit, Link, Take, Mark, Finish, Give, Rest, End, Reject, Withdraw, Quiet, Claim, Flag, Unflag}
 use Rattle.usb_machine.specs.declared.event.Answer.{Answer}
-use Rattle.usb_machine.specs.declared.event.Answer.TheVariants.{Code as Status}
 use Rattle.usb_machine.specs.declared.state.UrbState.{UrbState}
 use Rattle.usb_machine.specs.declared.state.Mark.TheVariants.{Clear}
-use Rattle.usb_machine.specs.declared.transfer.Transfer.{Transfer}
-use Rattle.usb_machine.specs.State.{after, accepted, unlinks, finishes, is_zero}
-use Rattle.usb_machine.specs.History.{Machine, state_of, is_of, pending_of, pending_after, sent_of}
+use Rattle.usb_machine.specs.State.{after, accepted, unlinks, finishes}
+use Rattle.usb_machine.specs.History.{Machine, state_of, is_of, sent_of}
 use Rattle.usb_machine.specs.Parts.{part_of}
 use Rattle.usb_machine.specs.Legal.{May, Follows, IsLegal}
 use Rattle.usb_machine.specs.Laws.{is_give, NoneGives}
 use Rattle.usb_machine.proofs.Steps.{state_of-snoc}
 use Rattle.usb_machine.proofs.Prefixes.{follows_before}
-use Rattle.usb_machine.specs.Fresh.{Known, Sound, Grown, Fresh}
-use Rattle.usb_machine.specs.Tokens.{gives_of, gives_after, is_finished}
-use Rattle.usb_types.specs.declared.urb.UrbId.{UrbId}
+use Rattle.usb_machine.specs.Fresh.{Known, Sound, Grown}
+use Rattle.usb_machine.specs.Tokens.{is_finished}
 use Rattle.usb_machine.specs.State.{is_clear}
 use Rattle.usb_machine.proofs.SentStands.{sent_stands, refused}
 

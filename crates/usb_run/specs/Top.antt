@@ -14,6 +14,8 @@ use Rattle.usb_report.specs.Listing.{list_text}
 use Rattle.usb_report.specs.Report.{text_of}
 use Rattle.usb_run.specs.declared.command.Command.{Command}
 use Rattle.usb_run.specs.declared.command.Command.TheVariants as ask
+use Rattle.usb_run.specs.declared.command.SceneCommand.{SceneCommand}
+use Rattle.usb_run.specs.declared.command.SceneCommand.TheVariants as of_scene
 use Rattle.usb_run.specs.declared.status.Status.{Status}
 use Rattle.usb_run.specs.declared.status.Status.TheVariants as status
 use Rattle.usb_run.specs.Words.{command_of}
@@ -43,8 +45,7 @@ pub record AddsReport (s : Scene) (old new : List ℕ) : Type 0 where
 
 -- whether a command reads a scene
 abbrev pub reads : Command → Bool
-reads ask.Serial = true
-reads ask.List = true
+reads (ask.Scene command) = true
 reads (ask.Gen number) = false
 
 -- a scene was read to its end
@@ -59,10 +60,14 @@ pub record ReadsNoScene (left_old left_new : Option (List ℕ)) (line : ℕ) (ca
   pub input : ReadsAll left_old left_new bytes
   pub no_scene : scene_of bytes ≡ Err (line, cause)
 
+-- the text is what a command prints of a scene
+abbrev pub IsSceneText : SceneCommand → Scene → List ℕ → Type 0
+IsSceneText of_scene.Serial s text = IsReport s text
+IsSceneText of_scene.List s text = text ≡ list_of s
+
 -- the text is what a command prints: of the scene that was read, or of a number
 abbrev pub IsTextOf : Command → Option (List ℕ) → Option (List ℕ) → List ℕ → Type 0
-IsTextOf ask.Serial left_old left_new text = (s : Scene) × ReadsScene left_old left_new s × IsReport s text
-IsTextOf ask.List left_old left_new text = (s : Scene) × ReadsScene left_old left_new s × (text ≡ list_of s)
+IsTextOf (ask.Scene command) left_old left_new text = (s : Scene) × ReadsScene left_old left_new s × IsSceneText command s text
 IsTextOf (ask.Gen number) left_old left_new text = IsSummed number [] text
 
 -- why no text was made: the source failed, what was read is too long or no scene, or memory ran out

@@ -6,6 +6,7 @@ use Rattle.std.specs.Str.{bytes_eq}
 use Rattle.usb_text.specs.Kinds.{digits_value}
 use Rattle.usb_run.specs.declared.command.Command.{Command}
 use Rattle.usb_run.specs.declared.command.Command.TheVariants as ask
+use Rattle.usb_run.specs.declared.command.SceneCommand.TheVariants as of_scene
 
 -- one to ten decimal digits whose value is below 2^32
 abbrev pub small_number : List ℕ → Option ℕ
@@ -17,6 +18,6 @@ small_number word =
 -- the command that words ask for, if they are in the grammar
 abbrev pub command_of : List (List ℕ) → Option Command
 command_of (word ∷ []) =
-    if bytes_eq word (codes "serial") then Some ask.Serial else if bytes_eq word (codes "list") then Some ask.List else None
+    if bytes_eq word (codes "serial") then Some (ask.Scene of_scene.Serial) else if bytes_eq word (codes "list") then Some (ask.Scene of_scene.List) else None
 command_of (word ∷ number ∷ []) = if bytes_eq word (codes "gen") then option_map ask.Gen (small_number number) else None
 command_of _ = None

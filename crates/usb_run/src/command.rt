@@ -4,13 +4,20 @@ ghost use Rattle.usb_run.specs.Words.{command_of, small_number};
 
 use usb_text::{are_digits, digits_value, is_text};
 
+/// What is asked of a scene.
+#[derive(Clone, Copy)]
+pub enum SceneCommand {
+    /// `serial`: its run in line order.
+    Serial,
+    /// `list`: what its devices are found to be.
+    List,
+}
+
 /// What the program is asked for.
 #[derive(Clone, Copy)]
 pub enum Command {
-    /// `serial`: the run of a scene in line order.
-    Serial,
-    /// `list`: what the devices of a scene are found to be.
-    List,
+    /// One word, and the scene is read.
+    Scene(SceneCommand),
     /// `gen N`: how the run of the scene of a number goes.
     Gen(u32),
 }
@@ -29,9 +36,9 @@ fn command_named(word: &[u8]) -> Option<Command>
     ensures { result ≡ command_of (word.now ∷ []) }
 {
     if is_text(word, "serial") {
-        Some(Command::Serial)
+        Some(Command::Scene(SceneCommand::Serial))
     } else if is_text(word, "list") {
-        Some(Command::List)
+        Some(Command::Scene(SceneCommand::List))
     } else {
         None
     }

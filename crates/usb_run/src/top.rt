@@ -9,10 +9,10 @@ ghost use Rattle.usb_summary.specs.Summed.{IsSummed};
 ghost use Rattle.usb_run.specs.declared.command.Command.{Command};
 ghost use Rattle.usb_run.specs.declared.status.Status.{Status};
 ghost use Rattle.usb_run.specs.Words.{command_of};
-ghost use Rattle.usb_run.specs.Top.{list_of, reads, AddsReport, IsReport, IsStop, IsTextOf, Ran, RanInPart, ReadsNoScene, ReadsScene};
+ghost use Rattle.usb_run.specs.Top.{list_of, reads, AddsReport, IsReport, IsSceneText, IsStop, IsTextOf, Ran, RanInPart, ReadsNoScene, ReadsScene};
 ghost use Rattle.usb_run.specs.Io.{input_limit, ReadsTooMany};
 
-use crate::command::{Command, read_command};
+use crate::command::{Command, SceneCommand, read_command};
 use crate::input::{Stop, read_input};
 use crate::output::write_output;
 use crate::status::Status;
@@ -26,7 +26,7 @@ use usb_scene::{Scene, SceneFault, read_scene};
 use usb_summary::summary;
 use usb_types::{Buf, Gate, Memory, Sink, Source};
 
-/// Adds the report of the scene's run in line order. After want of memory the text holds some prefix of it.
+/// Adds the report of the scene's run in line order.
 pub fn serial(alloc: Global, scene: &Scene, text: &mut Buf) -> Result<(), Memory>
     requires { IsWellFormed scene.now }
     ensures { OnOk result (AddsReport scene.now text.old text.new) }
@@ -37,7 +37,7 @@ pub fn serial(alloc: Global, scene: &Scene, text: &mut Buf) -> Result<(), Memory
     Ok(())
 }
 
-/// Adds the list of what the scene's devices are found to be. After want of memory the text holds some prefix of it.
+/// Adds the list of what the scene's devices are found to be.
 pub fn list(alloc: Global, scene: &Scene, text: &mut Buf) -> Result<(), Memory>
     requires { IsWellFormed scene.now }
     ensures { OnOk result (text.new ≡ text.old ++ list_of scene.now) }
@@ -67,30 +67,32 @@ fn read_input_scene<S: Source>(alloc: Global, input: &mut S) -> Result<Scene, St
     }
 }
 
-// Reads a scene, and makes the report of its run.
-fn serial_text<S: Source>(alloc: Global, input: &mut S) -> Result<Buf, Status>
-    ensures later { S.faults input.old ≤ S.faults input.new }
-    ensures text { IfOk result (λ text. IsTextOf Command.Serial (S.left input.old) (S.left input.new) text) }
-    ensures stopped { IfErr result (λ status. IsStop (S.faults input.old) (S.faults input.new) (S.left input.old) (S.left input.new) status) }
+// Makes what a command prints of a scene.
+fn scene_text(alloc: Global, command: SceneCommand, scene: &Scene) -> Result<Buf, Memory>
+    requires { IsWellFormed scene.now }
+    ensures { IfOk result (λ text. IsSceneText command scene.now text) }
 {
-    let scene = read_input_scene(alloc, input)?;
     let mut text = Buf::of(Vec::new(alloc));
-    match serial(alloc, &scene, &mut text) {
-        Ok(()) => Ok(text),
-        Err(Memory) => Err(Status::Memory),
+    match command {
+        SceneCommand::Serial => serial(alloc, scene, &mut text)?,
+        SceneCommand::List => list(alloc, scene, &mut text)?,
     }
+    Ok(text)
 }
 
-// Reads a scene, and makes the list of what its devices are found to be.
-fn listed_text<S: Source>(alloc: Global, input: &mut S) -> Result<Buf, Status>
+// Reads a scene, and makes what a command prints of it.
+fn text_of_input<S: Source>(
+    alloc: Global,
+    command: SceneCommand,
+    input: &mut S,
+) -> Result<Buf, Status>
     ensures later { S.faults input.old ≤ S.faults input.new }
-    ensures text { IfOk result (λ text. IsTextOf Command.List (S.left input.old) (S.left input.new) text) }
+    ensures text { IfOk result (λ text. IsTextOf (Command.Scene command) (S.left input.old) (S.left input.new) text) }
     ensures stopped { IfErr result (λ status. IsStop (S.faults input.old) (S.faults input.new) (S.left input.old) (S.left input.new) status) }
 {
     let scene = read_input_scene(alloc, input)?;
-    let mut text = Buf::of(Vec::new(alloc));
-    match list(alloc, &scene, &mut text) {
-        Ok(()) => Ok(text),
+    match scene_text(alloc, command, &scene) {
+        Ok(text) => Ok(text),
         Err(Memory) => Err(Status::Memory),
     }
 }
@@ -116,8 +118,7 @@ fn text_of<S: Source>(alloc: Global, command: Command, input: &mut S) -> Result<
     ensures memory { reads command ≡ false → OnErr result (result ≡ Err Status.Memory) }
 {
     match command {
-        Command::Serial => serial_text(alloc, input),
-        Command::List => listed_text(alloc, input),
+        Command::Scene(command) => text_of_input(alloc, command, input),
         Command::Gen(number) => number_text(alloc, number),
     }
 }

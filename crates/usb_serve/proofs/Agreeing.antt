@@ -53,12 +53,12 @@ held_set_other (x ∷ xs) zero (suc d) row off = refl
 held_set_other (x ∷ xs) (suc e) zero row off = refl
 held_set_other (x ∷ xs) (suc e) (suc d) row off = held_set_other xs e d row (λ is. off (ap suc is))
 
-none_whole : (shape : Shape) (t : Transfer) → IsWhole shape t []
+pub none_whole : (shape : Shape) (t : Transfer) → IsWhole shape t []
 none_whole shape t [] r after is stop = cc
 none_whole shape t (b ∷ bs) r after is stop = cc
 
 -- what was held stays held, by what the side still knows
-pub held_kept : (old new : Knows) (shape : Shape) (e : ℕ) (h : Held) → Keeps old new → FinishesNone old new → Contains (old.pending e) h.urb.0 → Contains (new.pending e) h.urb.0 → IsHeld old shape h → IsHeld new shape h
+unfoldable pub held_kept : (old new : Knows) (shape : Shape) (e : ℕ) (h : Held) → Keeps old new → FinishesNone old new → Contains (old.pending e) h.urb.0 → Contains (new.pending e) h.urb.0 → IsHeld old shape h → IsHeld new shape h
 held_kept old new shape e h keeps none was is o = record {
   start = o.start;
   sent = keeps.sent e h.urb.0 o.start was is o.sent;

@@ -17,7 +17,7 @@ use Rattle.usb_machine.specs.declared.state.Mark.TheVariants.{Clear, Unlinked, F
 use Rattle.usb_machine.specs.State.{why_of}
 use Rattle.usb_machine.specs.Legal.{times}
 use Rattle.usb_machine.specs.Plain.{ends_of}
-use Rattle.usb_serve.specs.declared.side.Look.{Look}
+use Rattle.usb_machine.specs.declared.host_answers.Look.{Look}
 use Rattle.usb_types.specs.declared.errno.Code.{Code}
 use Rattle.usb_machine.specs.declared.transfer.Transfer.{Transfer}
 use Rattle.usb_xfer.specs.Replies.{Question, Reply}

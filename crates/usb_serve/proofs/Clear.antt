@@ -13,7 +13,7 @@ use Rattle.usb_machine.specs.History.{Machine, home_of, state_of, pending_of}
 use Rattle.usb_machine.proofs.Mays.{first_times}
 use Rattle.usb_machine.proofs.Prefixes.{follows_before}
 use Rattle.usb_xfer.specs.Replies.{Question, Reply}
-use Rattle.usb_serve.specs.declared.side.Look.{Look}
+use Rattle.usb_machine.specs.declared.host_answers.Look.{Look}
 use Rattle.usb_serve.specs.declared.controller.Held.{Held}
 use Rattle.usb_serve.specs.declared.controller.EndRow.{EndRow}
 use Rattle.usb_serve.specs.declared.plain_side.PlainSide.{PlainSide}

@@ -5,8 +5,8 @@ use Rattle.std.proofs.lemmas.List.{take_more}
 use Rattle.std.proofs.lemmas.Option.{get_or_from_slice_get, slice_get_within, slice_get-get_or, same_Some}
 use Rattle.usb_types.specs.declared.urb.UrbId.{UrbId}
 use Rattle.usb_types.specs.declared.urb.Why.{Why}
-use Rattle.usb_serve.specs.declared.side.Look.{Look}
-use Rattle.usb_serve.specs.declared.side.Look.TheVariants.{Clean, Marked, MarkedSoon}
+use Rattle.usb_machine.specs.declared.host_answers.Look.{Look}
+use Rattle.usb_machine.specs.declared.host_answers.Look.TheVariants.{Clean, Marked, MarkedSoon}
 use Rattle.usb_serve.specs.declared.controller.Held.{Held}
 use Rattle.usb_serve.specs.Knows.{Knows, IsPending, Keeps, FinishesNone}
 use Rattle.usb_serve.specs.declared.controller.EndRow.{EndRow}

@@ -7,13 +7,12 @@ use Rattle.usb_types.specs.declared.errno.Code.{Code}
 use Rattle.usb_types.specs.declared.errno.Code.TheVariants.{Zero, Fault}
 use Rattle.usb_types.specs.declared.errno.Errno.{Errno}
 use Rattle.usb_machine.specs.declared.transfer.Transfer.{Transfer}
-use Rattle.usb_serve.specs.declared.handler.Refused.{Refused}
+use Rattle.usb_machine.specs.Tokens.{Told}
+use Rattle.usb_machine.specs.declared.host_answers.Refused.{Refused}
 
--- an URB that was given back, with its status, and with its transfer while that is there
-pub record Content : Type 0 where
-  pub urb : UrbId
-  pub code : Code
-  pub transfer : Option Transfer
+-- the URB that was given back
+abbrev pub told_urb : Told → UrbId
+told_urb t = record { 0 = t.urb }
 
 -- whether the side's calls may be made, of which URBs a handler runs, and which URBs have a home
 pub record Runs : Type 1 where
@@ -41,11 +40,6 @@ FitsAgain t action.Ask = Unit {0}
 abbrev pub refusal_in : Result (Unit {0}) Refused → Option Errno
 refusal_in (Ok done) = None
 refusal_in (Err r) = Some r.errno
-
--- a refused submit hands the transfer back
-abbrev pub HandsBack : Transfer → Result (Unit {0}) Refused → Type 0
-HandsBack t (Ok done) = Unit {0}
-HandsBack t (Err r) = r.transfer ≡ t
 
 abbrev pub code_in : Option Errno → Code
 code_in None = Zero

@@ -2,8 +2,8 @@
 use Rattle.std.specs.Prelude.{ℕ, suc, ◌≡◌, ◌<◌, Bool, true, false, List, ◌∷◌, [], ◌++◌, take, slice_get, Option, Some, None}
 use Rattle.usb_types.specs.declared.urb.UrbId.{UrbId}
 use Rattle.usb_types.specs.declared.urb.Why.{Why}
-use Rattle.usb_serve.specs.declared.side.Look.{Look}
-use Rattle.usb_serve.specs.declared.side.Look.TheVariants.{Clean, Marked, MarkedSoon}
+use Rattle.usb_machine.specs.declared.host_answers.Look.{Look}
+use Rattle.usb_machine.specs.declared.host_answers.Look.TheVariants.{Clean, Marked, MarkedSoon}
 use Rattle.usb_serve.specs.declared.controller.Held.{Held}
 use Rattle.usb_serve.specs.declared.controller.EndRow.{EndRow}
 use Rattle.usb_serve.specs.Knows.{Knows, SamePending, Keeps, FinishesNone}

@@ -20,8 +20,8 @@ use Rattle.usb_machine.specs.History.{Machine, home_of, state_of, line_of, pendi
 use Rattle.usb_machine.specs.Legal.{times}
 use Rattle.usb_machine.specs.Calls.{entry}
 use Rattle.usb_machine.specs.Plain.{Stands, urbs_of}
-use Rattle.usb_serve.specs.declared.side.Look.{Look}
-use Rattle.usb_serve.specs.declared.side.Look.TheVariants.{Clean, Marked}
+use Rattle.usb_machine.specs.declared.host_answers.Look.{Look}
+use Rattle.usb_machine.specs.declared.host_answers.Look.TheVariants.{Clean, Marked}
 use Rattle.usb_serve.specs.declared.plain_side.Slots.{Slots}
 use Rattle.usb_serve.specs.declared.plain_side.PlainSide.{PlainSide}
 use Rattle.usb_serve.specs.declared.plain_side.PlainGiven.{PlainGiven}

@@ -13,14 +13,15 @@ use Rattle.std.specs.Prelude.{Result, Ok, Err}
 use Rattle.usb_types.specs.declared.errno.Code.{Code}
 use Rattle.usb_machine.specs.declared.layout.Shape.{Shape}
 use Rattle.usb_machine.specs.Shapes.{shape_fault}
-use Rattle.usb_serve.specs.declared.handler.Refused.{Refused}
+use Rattle.usb_machine.specs.declared.host_answers.Refused.{Refused}
 use Rattle.usb_machine.specs.State.{refusal}
 use Rattle.usb_machine.specs.History.{Machine, state_of}
 use Rattle.usb_machine.specs.Calls.{entry, plain_entry, submit_entries}
 use Rattle.usb_serve.specs.declared.plain_side.Slots.{Slots}
 use Rattle.usb_serve.specs.declared.plain_side.PlainSide.{PlainSide}
 use Rattle.usb_serve.specs.declared.plain_side.PlainGiven.{PlainGiven}
-use Rattle.usb_serve.specs.Handlers.{Runs, Content}
+use Rattle.usb_machine.specs.Tokens.{Told}
+use Rattle.usb_serve.specs.Handlers.{Runs}
 use Rattle.usb_serve.specs.Plain.{IsPlain, IsPlainAt}
 
 abbrev pub handlers_in : Option UrbState → ℕ
@@ -34,8 +35,9 @@ plain_runs s = record {
   has_home = λ u. (e : ℕ) × (slice_get s.plain.homes.items u ≡ Some (Some e));
 }
 
-abbrev pub plain_content : PlainGiven → Content
-plain_content given = record { urb = given.urb; code = given.code; transfer = given.transfer }
+-- what a given URB tells
+abbrev pub plain_told : PlainGiven → Told
+plain_told given = record { urb = given.urb.0; code = given.code; transfer = given.transfer }
 
 -- a transfer was left to rest
 pub record PlainRests (old : PlainSide) (u : UrbId) (t : Transfer) (new : PlainSide) : Type 0 where

@@ -132,13 +132,3 @@ pub record Skips {D : Type 0} (e : ℕ) (devices after : List D) (ends rest : Li
 abbrev pub FirstMoves : {D : Type 0} → (D → ℕ → Question → Reply → D → Type 0) → (D → ℕ) → ℕ → List D → List D → List EndRow → List EndRow → Option MovedFirst → Type 0
 FirstMoves replies items_used e devices after ends rest None = Skips e devices after ends rest
 FirstMoves replies items_used e devices after ends rest (Some m) = TakesOut replies items_used e devices after ends rest m
-
--- what serving endpoint e did, by what came back
-abbrev pub ServesEnd : {S D G : Type 0} → (S → UrbId → Code → Bool → S → Type 0) → (S → UrbId → Transfer → G → S → Type 0) → (D → ℕ → Question → Reply → D → Type 0) → (D → ℕ) → ℕ → Serving S D → Option G → Bool → Serving S D → Type 0
-ServesEnd finishes gives replies items_used e x None changed y = PassesEnd finishes replies items_used e x changed y
-ServesEnd finishes gives replies items_used e x (Some given) changed y = Ends finishes gives replies e x given y × (changed ≡ true)
-
--- what serving the endpoints below n did, by what came back
-abbrev pub ServesAll : {S D G : Type 0} → (S → UrbId → Code → Bool → S → Type 0) → (S → UrbId → Transfer → G → S → Type 0) → (D → ℕ → Question → Reply → D → Type 0) → (D → ℕ) → ℕ → Serving S D → Option G → Bool → Serving S D → Type 0
-ServesAll finishes gives replies items_used n x None changed y = Passes finishes replies items_used x n changed y
-ServesAll {S} {D} finishes gives replies items_used n x (Some given) changed y = (e : ℕ) × (b : Bool) × (m : Serving S D) × (e < n) × Passes finishes replies items_used x e b m × Ends finishes gives replies e m given y × (changed ≡ true)

@@ -3,11 +3,11 @@ ghost use Rattle.std.specs.Prelude.{ℕ, ◌≡◌, Some, None, IfOk, IfErr, Con
 ghost use Rattle.usb_machine.specs.declared.transfer.Transfer.{Transfer};
 ghost use Rattle.usb_machine.specs.Shapes.{HasWindow};
 ghost use Rattle.usb_serve.specs.declared.handler.Outcome.TheVariants.{Rested};
-ghost use Rattle.usb_serve.specs.Handlers.{Content, StillRuns, windowed};
+ghost use Rattle.usb_serve.specs.Handlers.{told_urb, StillRuns, windowed};
 ghost use Rattle.usb_serve.specs.Completing.{Asks, Acts, Again, Completes};
 
-use crate::handler::{GivenBack, Handler, HandlerSide, Outcome};
-use usb_machine::Transfer;
+use crate::handler::{Handler, HandlerSide, Outcome};
+use usb_machine::{GivenBack, Transfer};
 use usb_types::{Action, Code, Memory, UrbId};
 
 // The transfer with another window.
@@ -45,10 +45,10 @@ fn ask<B: HandlerSide, H: Handler>(side: &mut B, handler: &mut H) -> Outcome
 // Leaves the transfer to rest.
 fn rest<B: HandlerSide>(side: &mut B, given: &mut B::Given, t: Transfer) -> Outcome
     requires whole { (B.runs side.old).is_whole }
-    requires handles { (B.runs side.old).handles (B.Given.content given.old).urb.0 }
+    requires handles { (B.runs side.old).handles (B.Given.told given.old).urb }
     requires window { HasWindow t }
-    ensures rests { B.rests side.old (B.Given.content given.old).urb t side.new }
-    ensures given { B.Given.content given.new ≡ B.Given.content given.old }
+    ensures rests { B.rests side.old (told_urb (B.Given.told given.old)) t side.new }
+    ensures given { B.Given.told given.new ≡ B.Given.told given.old }
     ensures still { StillRuns (B.runs side.old) (B.runs side.new) }
     ensures outcome { result ≡ Rested }
 {
@@ -59,11 +59,11 @@ fn rest<B: HandlerSide>(side: &mut B, given: &mut B::Given, t: Transfer) -> Outc
 // Submits the transfer of an URB that was given back again, and rests it where that is refused.
 fn resubmit<B: HandlerSide>(side: &mut B, given: &mut B::Given, t: Transfer) -> Outcome
     requires whole { (B.runs side.old).is_whole }
-    requires handles { (B.runs side.old).handles (B.Given.content given.old).urb.0 }
-    requires home { (B.runs side.old).has_home (B.Given.content given.old).urb.0 }
+    requires handles { (B.runs side.old).handles (B.Given.told given.old).urb }
+    requires home { (B.runs side.old).has_home (B.Given.told given.old).urb }
     requires transfer { HasWindow t × (t.actual ≡ 0) }
-    ensures again { Again B.rests B.submits (B.Given.content given.old).urb t side.old result side.new }
-    ensures given { B.Given.content given.new ≡ B.Given.content given.old }
+    ensures again { Again B.rests B.submits (told_urb (B.Given.told given.old)) t side.old result side.new }
+    ensures given { B.Given.told given.new ≡ B.Given.told given.old }
     ensures still { StillRuns (B.runs side.old) (B.runs side.new) }
 {
     match side.submit(given.urb(), t) {
@@ -83,13 +83,13 @@ fn act<B: HandlerSide, H: Handler>(
     t: Transfer,
 ) -> Result<Outcome, Memory>
     requires whole { (B.runs side.old).is_whole }
-    requires handles { (B.runs side.old).handles (B.Given.content given.old).urb.0 }
-    requires home { (B.runs side.old).has_home (B.Given.content given.old).urb.0 }
+    requires handles { (B.runs side.old).handles (B.Given.told given.old).urb }
+    requires home { (B.runs side.old).has_home (B.Given.told given.old).urb }
     requires homes { (u : ℕ) → Contains (H.asks_with handler.old) u → (B.runs side.old).has_home u }
     requires window { HasWindow t }
     ensures urbs { H.asks_with handler.new ≡ H.asks_with handler.old }
-    ensures acted { Acts B.rests B.submits H.completes H.asks H.unasks (B.Given.content given.old).urb (B.Given.content given.old).code t side.old handler.old result side.new handler.new }
-    ensures given { B.Given.content given.new ≡ B.Given.content given.old }
+    ensures acted { Acts B.rests B.submits H.completes H.asks H.unasks (told_urb (B.Given.told given.old)) (B.Given.told given.old).code t side.old handler.old result side.new handler.new }
+    ensures given { B.Given.told given.new ≡ B.Given.told given.old }
     ensures still { StillRuns (B.runs side.old) (B.runs side.new) }
 {
     match handler.complete(given.urb(), given.code(), &t) {
@@ -114,13 +114,13 @@ pub fn complete<B: HandlerSide, H: Handler>(
     handler: &mut H,
 ) -> Result<Outcome, Memory>
     requires whole { (B.runs side.old).is_whole }
-    requires handles { (B.runs side.old).handles (B.Given.content given).urb.0 }
-    requires home { (B.runs side.old).has_home (B.Given.content given).urb.0 }
+    requires handles { (B.runs side.old).handles (B.Given.told given).urb }
+    requires home { (B.runs side.old).has_home (B.Given.told given).urb }
     requires homes { (u : ℕ) → Contains (H.asks_with handler.old) u → (B.runs side.old).has_home u }
-    requires transfer { (t : Transfer) × ((B.Given.content given).transfer ≡ Some t) × HasWindow t }
+    requires transfer { (t : Transfer) × ((B.Given.told given).transfer ≡ Some t) × HasWindow t }
     ensures whole { (B.runs side.new).is_whole }
     ensures urbs { H.asks_with handler.new ≡ H.asks_with handler.old }
-    ensures completed { (t : Transfer) → (B.Given.content given).transfer ≡ Some t → Completes B.rests B.submits B.ends H.completes H.asks H.unasks (B.Given.content given).urb (B.Given.content given).code t side.old handler.old result side.new handler.new }
+    ensures completed { (t : Transfer) → (B.Given.told given).transfer ≡ Some t → Completes B.rests B.submits B.ends H.completes H.asks H.unasks (told_urb (B.Given.told given)) (B.Given.told given).code t side.old handler.old result side.new handler.new }
 {
     let mut given = given;
     match given.take_transfer() {

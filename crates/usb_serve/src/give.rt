@@ -5,6 +5,8 @@ ghost use Rattle.usb_serve.specs.declared.controller.Held.{Held};
 ghost use Rattle.usb_serve.specs.Held.{Agrees, with_held, serving};
 ghost use Rattle.usb_serve.specs.Looking.{SettledAt};
 ghost use Rattle.usb_serve.specs.Serving.{GivesMarked};
+ghost use Rattle.usb_serve.specs.SoFar.{IsSoFar, without_place};
+ghost use Rattle.usb_xfer.specs.Replies.{Reply};
 
 use crate::controller::{Controller, EndRow, Held};
 use crate::side::Side;
@@ -65,6 +67,7 @@ impl<D> Controller<D> {
         requires room { (S.knows side.old).may_give }
         requires settled { SettledAt (S.knows side.old) self.old.ends.items ep place }
         ensures agrees { Agrees (S.knows side.new) self.new }
+        ensures so_far { (so : ℕ → List Reply) → IsSoFar (S.knows side.old) so self.old.ends.items → IsSoFar (S.knows side.new) (without_place ep place so) self.new.ends.items }
         ensures gave { GivesMarked S.gives ep place (serving side.old self.old) result (serving side.new self.new) }
     {
         match self.take_out(ep, place) {

@@ -7,10 +7,11 @@ ghost use Rattle.usb_types.specs.declared.errno.Errno.{Errno};
 ghost use Rattle.usb_types.specs.declared.outside.Memory.{Memory};
 ghost use Rattle.usb_machine.specs.declared.transfer.Transfer.{Transfer};
 ghost use Rattle.usb_machine.specs.Shapes.{HasWindow};
-ghost use Rattle.usb_serve.specs.Handlers.{Content, Runs, StillRuns, FitsAgain, refusal_in, HandsBack};
+ghost use Rattle.usb_machine.specs.HostCalls.{HandsBack};
+ghost use Rattle.usb_serve.specs.Handlers.{told_urb, Runs, StillRuns, FitsAgain, refusal_in};
 
-use usb_machine::Transfer;
-use usb_types::{Action, Code, Errno, Memory, UrbId};
+use usb_machine::{GivenBack, Refused, Transfer};
+use usb_types::{Action, Code, Memory, UrbId};
 
 /// What a completion handler did with the transfer: it rests, it was submitted again with this answer, or it rests and the
 /// driver's question was submitted with this answer.
@@ -19,13 +20,6 @@ pub enum Outcome {
     Rested,
     Again(Code),
     Asked(Code),
-}
-
-/// A submit that was refused, with the transfer as it was.
-#[derive(Drop)]
-pub struct Refused {
-    pub errno: Errno,
-    pub transfer: Transfer,
 }
 
 /// What a driver does where its URBs come back.
@@ -65,23 +59,6 @@ pub trait Handler {
         ensures urbs { asks_with self.new ≡ asks_with self.old };
 }
 
-/// An URB that was given back.
-pub trait GivenBack {
-    // Its URB, its status, and its transfer while that is there.
-    ghost content: { Self → Content };
-
-    fn urb(&self) -> UrbId
-        ensures { result ≡ (content self.now).urb };
-
-    fn code(&self) -> Code
-        ensures { result ≡ (content self.now).code };
-
-    /// The transfer, where it was not taken before.
-    fn take_transfer(&mut self) -> Option<Transfer>
-        ensures transfer { result ≡ (content self.old).transfer }
-        ensures content { content self.new ≡ record (content self.old) { transfer = None } };
-}
-
 /// The side of a host on which handlers run: the three steps of a handler.
 pub trait HandlerSide {
     type Given: GivenBack;
@@ -101,10 +78,10 @@ pub trait HandlerSide {
     /// Leaves a transfer to rest with an URB that was given back.
     fn rest(&mut self, given: &mut Self::Given, t: Transfer)
         requires whole { (runs self.old).is_whole }
-        requires handles { (runs self.old).handles (Self.Given.content given.old).urb.0 }
+        requires handles { (runs self.old).handles (Self.Given.told given.old).urb }
         requires window { HasWindow t }
-        ensures rests { rests self.old (Self.Given.content given.old).urb t self.new }
-        ensures given { Self.Given.content given.new ≡ Self.Given.content given.old }
+        ensures rests { rests self.old (told_urb (Self.Given.told given.old)) t self.new }
+        ensures given { Self.Given.told given.new ≡ Self.Given.told given.old }
         ensures still { StillRuns (runs self.old) (runs self.new) };
 
     /// Submits a transfer. One that is refused is handed back.
@@ -119,7 +96,7 @@ pub trait HandlerSide {
     /// Ends the handler of an URB that was given back.
     fn end(&mut self, given: Self::Given)
         requires whole { (runs self.old).is_whole }
-        requires handles { (runs self.old).handles (Self.Given.content given).urb.0 }
+        requires handles { (runs self.old).handles (Self.Given.told given).urb }
         ensures whole { (runs self.new).is_whole }
-        ensures ends { ends self.old (Self.Given.content given).urb self.new };
+        ensures ends { ends self.old (told_urb (Self.Given.told given)) self.new };
 }

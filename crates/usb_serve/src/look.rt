@@ -1,14 +1,17 @@
 //! The server looks at the marks of the pending URBs, one after another.
-ghost use Rattle.std.specs.Prelude.{◌≡◌, ◌<◌, ◌==◌, ◌∷◌, ◌++◌, [], ℕ, length, slice_get, slice_set, Some, None, true, List, if◌then◌else◌, All, IfSome};
+ghost use Rattle.std.specs.Prelude.{◌≡◌, ◌<◌, ◌≤◌, ◌+◌, ◌==◌, ◌∷◌, ◌++◌, [], ℕ, length, slice_get, slice_set, Some, None, true, List, if◌then◌else◌, All, IfSome};
 ghost use Rattle.usb_serve.specs.declared.controller.EndRow.{EndRow};
 ghost use Rattle.usb_serve.specs.declared.controller.Held.{Held};
 ghost use Rattle.usb_serve.specs.Knows.{IsPending};
 ghost use Rattle.usb_serve.specs.Held.{Agrees, CleanIsOpen, serving};
+ghost use Rattle.usb_serve.specs.SoFar.{AreSoFar, IsSoFar};
+ghost use Rattle.usb_xfer.specs.Replies.{Reply};
 ghost use Rattle.usb_serve.specs.Looking.{is_clean, has_reason, with_clean, Stays, LooksThrough, LooksEnd, LooksAll, SettledAt};
 
 use crate::controller::{Controller, Held};
-use crate::side::{Look, Side};
+use crate::side::Side;
 use circular_buffer::HeapCircularBuffer;
+use usb_machine::Look;
 
 // Whether the first URB is clean, after a look at the one at this place.
 fn clean_first(clean: bool, place: usize, look: Look) -> bool
@@ -68,6 +71,8 @@ impl<D> Controller<D> {
         ensures agrees { Agrees (S.knows side.new) self.new }
         ensures ends { length self.new.ends.items ≡ length self.old.ends.items }
         ensures stays { Stays (S.knows side.old) (S.knows side.new) }
+        ensures so_far { (so : ℕ → List Reply) → AreSoFar (S.knows side.old) (λ f. f < ep) so self.old.ends.items → AreSoFar (S.knows side.new) (λ f. f < ep) so self.new.ends.items }
+        ensures open_so_far { result ≡ None → (so : ℕ → List Reply) → AreSoFar (S.knows side.old) (λ f. f < ep) so self.old.ends.items → AreSoFar (S.knows side.new) (λ f. f < ep + 1) so self.new.ends.items }
         ensures opens { (row : EndRow) → result ≡ None → slice_get self.new.ends.items ep ≡ Some row → CleanIsOpen (S.knows side.new) row }
         ensures looked { LooksEnd S.looks ep result (serving side.old self.old) (serving side.new self.new) }
         ensures settled { IfSome result (SettledAt (S.knows side.new) self.new.ends.items ep) }
@@ -88,6 +93,8 @@ impl<D> Controller<D> {
         ensures agrees { Agrees (S.knows side.new) self.new }
         ensures ends { length self.new.ends.items ≡ length self.old.ends.items }
         ensures room { (S.knows side.old).may_give → (S.knows side.new).may_give }
+        ensures so_far { (so : ℕ → List Reply) → IsSoFar (S.knows side.old) so self.old.ends.items → IsSoFar (S.knows side.new) so self.new.ends.items }
+        ensures open_so_far { result ≡ None → (so : ℕ → List Reply) → IsSoFar (S.knows side.old) so self.old.ends.items → AreSoFar (S.knows side.new) (λ f. 0 ≤ f) so self.new.ends.items }
         ensures opens { (e : ℕ) (row : EndRow) → result ≡ None → slice_get self.new.ends.items e ≡ Some row → CleanIsOpen (S.knows side.new) row }
         ensures looked { LooksAll S.looks (length self.old.ends.items) result (serving side.old self.old) (serving side.new self.new) }
         ensures settled { IfSome result (λ p. SettledAt (S.knows side.new) self.new.ends.items p.0 p.1) }

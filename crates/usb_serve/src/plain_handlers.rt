@@ -1,15 +1,15 @@
 //! The handlers' side over a machine with its transfers.
 ghost use Rattle.std.specs.Prelude.{ℕ, ◌≡◌, ◌<◌, ◌++◌, ◌∷◌, [], List, length, slice_get, slice_set, Some, None};
 ghost use Rattle.usb_serve.specs.declared.plain_side.Slots.{Slots};
-ghost use Rattle.usb_serve.specs.PlainHandlers.{plain_content, plain_runs, PlainRests, PlainSubmits, PlainEnds};
+ghost use Rattle.usb_serve.specs.PlainHandlers.{plain_told, plain_runs, PlainRests, PlainSubmits, PlainEnds};
 
-use crate::handler::{GivenBack, HandlerSide, Refused};
+use crate::handler::HandlerSide;
 use crate::plain_side::{PlainGiven, PlainSide};
-use usb_machine::{SERVER, Transfer};
+use usb_machine::{GivenBack, Refused, SERVER, Transfer};
 use usb_types::{Code, UrbId};
 
 impl GivenBack for PlainGiven {
-    ghost content = { plain_content };
+    ghost told = { plain_told };
 
     fn urb(&self) -> UrbId {
         self.urb
@@ -17,6 +17,10 @@ impl GivenBack for PlainGiven {
 
     fn code(&self) -> Code {
         self.code
+    }
+
+    fn transfer(&self) -> Option<&Transfer> {
+        self.transfer.as_ref()
     }
 
     fn take_transfer(&mut self) -> Option<Transfer> {

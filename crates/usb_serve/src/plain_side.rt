@@ -8,10 +8,9 @@ ghost use Rattle.usb_serve.specs.Plain.{IsPlainAt};
 ghost use Rattle.usb_serve.specs.declared.plain_side.Slots.{Slots};
 ghost use Rattle.usb_serve.specs.Plain.{answered_urb, answered_truth, answered_code, IsPlain, plain_knows, PlainTakes, PlainLooks, PlainFinishes, PlainGives};
 
-use crate::handler::GivenBack;
-use crate::side::{Look, Side};
+use crate::side::Side;
 use std::alloc::{AllocError, Global};
-use usb_machine::{Answer, Event, Layout, Plain, SERVER, Transfer};
+use usb_machine::{Answer, Event, Layout, Look, Plain, SERVER, Transfer};
 use usb_types::{Code, Memory, UrbId};
 
 /// The transfers of an URB: in its line, and at rest.

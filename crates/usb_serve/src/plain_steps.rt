@@ -6,13 +6,13 @@ ghost use Rattle.usb_machine.specs.declared.layout.Shape.{Shape};
 ghost use Rattle.usb_machine.specs.declared.entry.Entry.{Entry};
 ghost use Rattle.usb_machine.specs.History.{Machine, home_of};
 ghost use Rattle.usb_serve.specs.declared.plain_side.Slots.{Slots};
-ghost use Rattle.usb_serve.specs.Handlers.{StillRuns, refusal_in, HandsBack};
+ghost use Rattle.usb_machine.specs.HostCalls.{HandsBack};
+ghost use Rattle.usb_serve.specs.Handlers.{StillRuns, refusal_in};
 ghost use Rattle.usb_serve.specs.Plain.{IsPlain, IsPlainAt};
 ghost use Rattle.usb_serve.specs.PlainHandlers.{plain_runs, PlainRests, PlainEnds, SubmitsAs, QueuedBy};
 
-use crate::handler::Refused;
 use crate::plain_side::{PlainSide, code_in};
-use usb_machine::{Event, SERVER, Transfer, shape_fault};
+use usb_machine::{Event, Refused, SERVER, Transfer, shape_fault};
 use usb_types::{Code, Errno, UrbId};
 
 impl PlainSide<'_> {

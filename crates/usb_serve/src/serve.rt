@@ -1,11 +1,12 @@
 //! The controller moves the first pending transfer of each endpoint, up to one that comes back.
-ghost use Rattle.std.specs.Prelude.{◌≡◌, ◌≢◌, ◌<◌, ◌≤◌, ◌==◌, ◌&&◌, ◌||◌, ◌∷◌, ◌++◌, [], ℕ, List, length, slice_get, slice_set, Option, Some, None, true, false, not, MatchOption};
+ghost use Rattle.std.specs.Prelude.{◌≡◌, ◌≢◌, ◌<◌, ◌≤◌, ◌==◌, ◌+◌, ◌&&◌, ◌||◌, ◌∷◌, ◌++◌, [], ℕ, List, length, slice_get, slice_set, Option, Some, None, true, false, not, MatchOption};
 ghost use Rattle.usb_machine.specs.declared.transfer.Transfer.{Transfer};
 ghost use Rattle.usb_machine.specs.Shapes.{HasWindow};
 ghost use Rattle.usb_serve.specs.declared.controller.EndRow.{EndRow};
 ghost use Rattle.usb_serve.specs.declared.controller.Held.{Held};
 ghost use Rattle.usb_serve.specs.Held.{Agrees, with_held, CleanIsOpen, serving};
-ghost use Rattle.usb_serve.specs.Serving.{code_of, has_changed, RowFirst, FirstOut, MovedOn, FirstMoves, ServesEnd, ServesAll};
+ghost use Rattle.usb_serve.specs.SoFar.{GoesOn, ServesEnd, ServesAll};
+ghost use Rattle.usb_serve.specs.Serving.{code_of, has_changed, RowFirst, FirstOut, MovedOn, FirstMoves};
 
 use crate::controller::{Controller, EndRow, Held};
 use crate::side::Side;
@@ -133,7 +134,7 @@ impl<D: Device> Controller<D> {
         ensures ends { length self.new.ends.items ≡ length self.old.ends.items }
         ensures room { result.given ≡ None → (S.knows side.new).may_give }
         ensures opens { (e : ℕ) (row : EndRow) → e ≢ ep → result.given ≡ None → slice_get self.new.ends.items e ≡ Some row → CleanIsOpen (S.knows side.old) row → CleanIsOpen (S.knows side.new) row }
-        ensures served { ServesEnd S.finishes S.gives D.replies D.items_used ep (serving side.old self.old) result.given result.changed (serving side.new self.new) }
+        ensures served { ServesEnd S.finishes D.replies D.items_used S.gives (GoesOn (S.knows side.old) self.old.ends.items ep (S.knows side.new) self.new.ends.items (ep + 1)) ep (serving side.old self.old) result.given result.changed (serving side.new self.new) }
     {
         match self.move_first(ep) {
             None => Turn {
@@ -171,7 +172,7 @@ impl<D: Device> Controller<D> {
         requires room { (S.knows side.old).may_give }
         requires opens { (e : ℕ) (row : EndRow) → slice_get self.old.ends.items e ≡ Some row → CleanIsOpen (S.knows side.old) row }
         ensures agrees { Agrees (S.knows side.new) self.new }
-        ensures served { ServesAll S.finishes S.gives D.replies D.items_used (length self.old.ends.items) (serving side.old self.old) result.given result.changed (serving side.new self.new) }
+        ensures served { ServesAll S.finishes D.replies D.items_used S.gives (GoesOn (S.knows side.old) self.old.ends.items 0 (S.knows side.new) self.new.ends.items (length self.old.ends.items)) (length self.old.ends.items) (serving side.old self.old) result.given result.changed (serving side.new self.new) }
     {
         let mut changed = false;
         for ep in 0..self.ends.len() {

@@ -5,21 +5,12 @@ ghost use Rattle.usb_types.specs.declared.urb.Why.{Why};
 ghost use Rattle.usb_types.specs.declared.errno.Code.{Code};
 ghost use Rattle.usb_machine.specs.declared.transfer.Transfer.{Transfer};
 ghost use Rattle.usb_machine.specs.Shapes.{HasWindow};
-ghost use Rattle.usb_serve.specs.declared.side.Look.{Look};
-ghost use Rattle.usb_serve.specs.declared.side.Look.TheVariants.{Clean, Marked};
+ghost use Rattle.usb_machine.specs.declared.host_answers.Look.{Look};
+ghost use Rattle.usb_machine.specs.declared.host_answers.Look.TheVariants.{Clean, Marked};
 ghost use Rattle.usb_serve.specs.Knows.{Knows, IsPending, SamePending, Keeps, FinishesNone, FinishesOnly, pending_with, Takes, Leaves};
 
-use usb_machine::Transfer;
-use usb_types::{Code, UrbId, Why};
-
-/// What a look at the mark of a pending URB finds.
-#[derive(Clone, Copy)]
-pub enum Look {
-    Clean,
-    Marked(Why),
-    /// A mark stands, and its reason is not stored yet.
-    MarkedSoon,
-}
+use usb_machine::{Look, Transfer};
+use usb_types::{Code, UrbId};
 
 /// The server's side of a host: a host with its server, or a machine with its transfers.
 pub trait Side {

@@ -14,18 +14,19 @@ ghost use Rattle.usb_serve.specs.declared.solo.Stopped.TheVariants.{Left};
 ghost use Rattle.usb_serve.specs.Plain.{IsPlainAt};
 ghost use Rattle.usb_machine.specs.Shapes.{HasWindow};
 ghost use Rattle.usb_serve.specs.PlainHandlers.{plain_runs};
-ghost use Rattle.usb_serve.specs.Handlers.{refusal_in, HandsBack};
+ghost use Rattle.usb_machine.specs.HostCalls.{HandsBack};
+ghost use Rattle.usb_serve.specs.Handlers.{refusal_in};
 ghost use Rattle.usb_serve.specs.Growing.{TurnsBy, IsCall};
 ghost use Rattle.usb_serve.specs.Solo.{IsSoloAt, IsSolo, Wakes, Falls, StepsBy, ServesBy, WaitsBy, IsQuiet, answered_number, SubmitsBy, MayStop, CanStop, stop_entries, PoisonsBy, KillsBy};
 
 use crate::beginning::begin;
 use crate::completing::complete;
 use crate::controller::Controller;
-use crate::handler::{Handler, Refused};
+use crate::handler::Handler;
 use crate::plain_side::{PlainSide, code_in};
 use crate::serve::Turn;
 use std::alloc::Global;
-use usb_machine::{Answer, Event, Layout, SERVER, Transfer};
+use usb_machine::{Answer, Event, Layout, Refused, SERVER, Transfer};
 use usb_types::{Code, Memory, UrbId, Why};
 use usb_xfer::Device;
 
@@ -195,7 +196,7 @@ impl<D: Device, H: Handler> Solo<'_, D, H> {
     }
 
     // Makes a step of a call, where it may come.
-    fn call(&mut self, pass: u32, event: Event) -> Answer
+    pub(crate) fn call(&mut self, pass: u32, event: Event) -> Answer
         requires inside { IsInside self.old.side.plain event }
         requires step { IsCall event }
         ensures called { (g : Machine) (h : List Entry) → IsSoloAt H.asks_with self.old g h → IsNext g h pass event None → (result ≡ answer_of event (state_of h (urb_of event)) []) × IsSoloAt H.asks_with self.new g (h ++ entry pass event result None ∷ []) }
@@ -251,7 +252,7 @@ impl<D: Device, H: Handler> Solo<'_, D, H> {
     }
 
     // Sees the URB quiet, and claims what rests with it.
-    fn claim(&mut self, pass: u32, urb: UrbId) -> Option<u64>
+    pub(crate) fn claim(&mut self, pass: u32, urb: UrbId) -> Option<u64>
         requires { urb.0 < urbs_of self.old.side.plain }
         ensures claims { (g : Machine) (h : List Entry) → IsSoloAt H.asks_with self.old g h → pass < g.passes → IsQuiet (state_of h urb.0) → holds_any (held_of (part_of h pass) urb.0) ≡ true
             → (result ≡ (state_of h urb.0).rest) × IsSoloAt H.asks_with self.new g (h ++ claim_entries pass urb.0 result) }

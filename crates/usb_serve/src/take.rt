@@ -1,8 +1,10 @@
 //! A turn begins by taking all that the lines give.
-ghost use Rattle.std.specs.Prelude.{◌≡◌, ◌<◌, ◌≤◌, ◌∷◌, ◌++◌, [], ℕ, length, slice_get, slice_set, Some, nat_lt, ◌||◌};
+ghost use Rattle.std.specs.Prelude.{◌≡◌, ◌<◌, ◌≤◌, ◌∷◌, ◌++◌, [], ℕ, List, length, slice_get, slice_set, Some, nat_lt, ◌||◌};
 ghost use Rattle.usb_serve.specs.declared.controller.EndRow.{EndRow};
 ghost use Rattle.usb_serve.specs.Held.{Agrees, with_held, serving};
 ghost use Rattle.usb_serve.specs.Taking.{TakesLine, TakesBelow};
+ghost use Rattle.usb_serve.specs.SoFar.{IsSoFar};
+ghost use Rattle.usb_xfer.specs.Replies.{Reply};
 
 use crate::controller::{Controller, Held};
 use crate::side::Side;
@@ -30,6 +32,7 @@ impl<D> Controller<D> {
         ensures agrees { Agrees (S.knows side.new) self.new }
         ensures ends { length self.new.ends.items ≡ length self.old.ends.items }
         ensures room { (S.knows side.old).may_give → (S.knows side.new).may_give }
+        ensures so_far { (so : ℕ → List Reply) → IsSoFar (S.knows side.old) so self.old.ends.items → IsSoFar (S.knows side.new) so self.new.ends.items }
         ensures taken { (n : ℕ) × TakesLine S.takes ep (serving side.old self.old) n (serving side.new self.new) × (result ≡ nat_lt 0 n) }
     {
         let mut taken = false;
@@ -50,6 +53,7 @@ impl<D> Controller<D> {
         ensures agrees { Agrees (S.knows side.new) self.new }
         ensures ends { length self.new.ends.items ≡ length self.old.ends.items }
         ensures room { (S.knows side.old).may_give → (S.knows side.new).may_give }
+        ensures so_far { (so : ℕ → List Reply) → IsSoFar (S.knows side.old) so self.old.ends.items → IsSoFar (S.knows side.new) so self.new.ends.items }
         ensures taken { (n : ℕ) × TakesBelow S.takes (serving side.old self.old) (length self.old.ends.items) n (serving side.new self.new) × (result ≡ nat_lt 0 n) }
     {
         let mut taken = false;

@@ -26,7 +26,11 @@ use Rattle.usb_machine.proofs.Places.{placed, bit, times-without, times-without_
 use Rattle.usb_machine.proofs.Sent.{IsSent, queued_is_sent}
 use Rattle.usb_machine.proofs.Steps.{state_of-snoc, pending_of-snoc, sent_of-snoc}
 use Rattle.usb_machine.specs.Fresh.{Known, Sound, Fresh, Looked}
-use Rattle.usb_machine.specs.HostCalls.{Took}
+use Rattle.usb_machine.specs.HostCalls.{Took, Finds, IfMarked}
+use Rattle.usb_machine.specs.declared.host_answers.Look.{Look}
+use Rattle.usb_machine.specs.declared.host_answers.Look.TheVariants.{Clean, Marked}
+use Rattle.usb_machine.specs.declared.state.Mark.{Mark as MarkState}
+use Rattle.usb_types.specs.declared.urb.Why.{Why}
 use Rattle.usb_machine.specs.Tokens.{is_finished}
 use Rattle.usb_serve.specs.Knows.{Keeps, FinishesNone, FinishesOnly, Takes, Leaves}
 use Rattle.usb_side.specs.Side.{side_knows}
@@ -88,6 +92,13 @@ module _ (g : Machine) (u : ℕ) where
   finished_pending _ empty f = absurd (true≢false (sym f))
   finished_pending _ (longer h x legal follows) f = subst (λ us. 0 < times u us) (sym (pending_of-snoc h x g (home_of g u)))
       (step h x.pass (home_of g u) x.event x.answer (state_of h u) (pending_of g h (home_of g u)) refl refl follows.may (finished_pending h legal) (sym (ap (λ (s : UrbState). is_finished s.mark) (state_of-snoc h x u)) ∙ f))
+
+-- what a look found, where it found no mark, and where it read one
+pub found_clean : (m : MarkState) (look : Look) (soon : Type 0) → look ≡ Clean → Finds m look soon → is_clear m ≡ true
+found_clean m look soon is f = subst (λ l. Finds m l soon) is f
+
+pub found_marked : (look : Look) (P : Type 0) (why : Why) → look ≡ Marked why → IfMarked look P → P
+found_marked look P why is f = subst (λ l. IfMarked l P) is f
 
 module _ (g : Machine) (p q : Known) (server : p.number ≡ SERVER) (sound : Sound g p) where
   -- a look

@@ -1,5 +1,5 @@
 -- What stays over a call of the server, by the entries that it makes.
-use Rattle.std.proofs.Common.{◌≡◌, ◌≢◌, ℕ, ◌<◌, Bool, true, false, cond, eqb, Option, Some, None, List, [], ◌∷◌, ◌++◌, sym, refl, ap, ◌∙◌, subst, arith, append_assoc, append-nil, eq-eqb, ne_eqb, true≢false, fold, Result, Err}
+use Rattle.std.proofs.Common.{◌≡◌, ◌≢◌, ℕ, ◌<◌, Bool, true, false, cond, eqb, Option, Some, None, List, [], ◌∷◌, ◌++◌, sym, refl, ap, ◌∙◌, subst, arith, append_assoc, append-nil, eq-eqb, ne_eqb, true≢false, fold, Result, Ok, Err}
 use Rattle.std.proofs.lemmas.List.{append_cancel_left}
 use Rattle.std.proofs.lemmas.List.Elements.{filter-append}
 use Rattle.std.proofs.lemmas.List.Sums.{fold-append}
@@ -28,7 +28,7 @@ use Rattle.usb_machine.specs.Fresh.{Known, Sound, Grown, Fresh}
 use Rattle.usb_machine.specs.HostCalls.{Submitted, answer_of_submit}
 use Rattle.usb_machine.specs.declared.host_answers.Refused.{Refused}
 use Rattle.usb_machine.specs.Tokens.{gives_of, gives_after, is_finished}
-use Rattle.usb_serve.specs.Handlers.{StillRuns}
+use Rattle.usb_serve.specs.Handlers.{StillRuns, refusal_in}
 use Rattle.usb_types.specs.declared.urb.UrbId.{UrbId}
 use Rattle.usb_machine.specs.HostCalls.{fault_at, shape_of}
 use Rattle.usb_side.specs.Side.{IsWholeSide, side_runs, SideSubmits, SubmitsOr}
@@ -92,10 +92,12 @@ submit_whole g here here_now p q pending pending_now given given_now room room_n
       sound = s.sound;
     }
 
--- a submit that was refused
-pub submit_refused : (g : Machine) (p q : Known) (u : UrbId) (t : Transfer) (e : Refused) (r : Result (Unit {0}) Refused) → r ≡ Err e → Submitted g p q u.0 t (fault_at (shape_of g u.0) t) r → SideSubmits g g p q u t (Some e.errno)
-submit_refused g p q u t e r is s = record { same = refl; submitted = go (fault_at (shape_of g u.0) t) (subst (λ r. Submitted g p q u.0 t (fault_at (shape_of g u.0) t) r) is s) }
+-- a submit, by why it was refused
+pub submit_told : (g : Machine) (p q : Known) (u : UrbId) (t : Transfer) (r : Result (Unit {0}) Refused) → Submitted g p q u.0 t (fault_at (shape_of g u.0) t) r → SideSubmits g g p q u t (refusal_in r)
+submit_told g p q u t r s = record { same = refl; submitted = go (fault_at (shape_of g u.0) t) r s }
   where
-    go : (fault : Option Errno) → Submitted {A = Unit {0}} g p q u.0 t fault (Err e) → SubmitsOr g p q u.0 t fault (Some e.errno)
-    go (Some errno) s = (ap Some s.0, s.1)
-    go None s = s
+    go : (fault : Option Errno) (r : Result (Unit {0}) Refused) → Submitted g p q u.0 t fault r → SubmitsOr g p q u.0 t fault (refusal_in r)
+    go (Some errno) (Ok a) s = absurd s.0
+    go (Some errno) (Err e) s = (ap Some s.0, s.1)
+    go None (Ok a) s = s
+    go None (Err e) s = s

@@ -20,7 +20,7 @@ use Rattle.usb_machine.specs.HostCalls.{Took}
 use Rattle.usb_machine.specs.Tokens as tokens
 use Rattle.usb_machine.proofs.Growing.{grown_none, grown_more}
 use Rattle.usb_xfer.specs.Replies.{Question, Reply}
-use Rattle.usb_serve.specs.declared.side.Look.{Look}
+use Rattle.usb_machine.specs.declared.host_answers.Look.{Look}
 use Rattle.usb_serve.specs.declared.controller.Held.{Held}
 use Rattle.usb_serve.specs.Held.{Serving, Holds, IsHeld}
 use Rattle.usb_serve.specs.Taking.{TakesSome, TakesLine, TakesBelow, line}

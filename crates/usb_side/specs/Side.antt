@@ -11,14 +11,10 @@ use Rattle.usb_machine.specs.History.{Machine, HasHome, state_of, pending_of, se
 use Rattle.usb_machine.specs.Calls.{entry, plain_entry, submit_entries}
 use Rattle.usb_machine.specs.Fresh.{Known, Sound, Fresh, Looked}
 use Rattle.usb_machine.specs.HostCalls.{IsUrb, Took, Finds, fault_at, shape_of}
-use Rattle.usb_machine.specs.Tokens.{IsWholeServer, is_finished}
-use Rattle.usb_machine.specs.Tokens as tokens
-use Rattle.usb_machine.specs.declared.host_answers.Look.{Look as HostLook}
-use Rattle.usb_machine.specs.declared.host_answers.Look.TheVariants as found
-use Rattle.usb_serve.specs.declared.side.Look.{Look}
-use Rattle.usb_serve.specs.declared.side.Look.TheVariants.{Clean, Marked, MarkedSoon}
+use Rattle.usb_machine.specs.Tokens.{IsWholeServer, Told, is_finished}
+use Rattle.usb_machine.specs.declared.host_answers.Look.{Look}
 use Rattle.usb_serve.specs.Knows.{Knows}
-use Rattle.usb_serve.specs.Handlers.{Content, Runs, code_in}
+use Rattle.usb_serve.specs.Handlers.{Runs, code_in}
 
 -- the server's token is whole, and its pass is the host's and has seen a legal history
 pub record IsWholeSide (g : Machine) (is_here : Type 0) (p : Known) (pending : ℕ → List ℕ) (given : ℕ) (has_room : Machine → Type 0) : Type 0 where
@@ -44,30 +40,20 @@ pub record SideTakes (f g : Machine) (p q : Known) (ep : ℕ) (r : Option (UrbId
   pub same : g ≡ f
   pub took : Took f p q ep r cause
 
--- a look, in the words of the host
-abbrev pub as_host : Look → HostLook
-as_host Clean = found.Clean
-as_host (Marked why) = found.Marked why
-as_host MarkedSoon = found.MarkedSoon
-
 pub record SideLooks (f g : Machine) (p q : Known) (u : UrbId) (look : Look) (soon : Type 0) : Type 0 where
   pub same : g ≡ f
   pub looked : Looked f p q
-  pub finds : Finds (state_of q.seen u.0).mark (as_host look) soon
+  pub finds : Finds (state_of q.seen u.0).mark look soon
 
 pub record SideFinishes (f g : Machine) (p q : Known) (u : UrbId) (code : Code) (done : Bool) : Type 0 where
   pub same : g ≡ f
   pub fresh : Fresh f p q (entry p.number (Finish u code) (Truth done) None ∷ [])
 
-pub record SideGives (f g : Machine) (p q : Known) (u : UrbId) (t : Transfer) (told : tokens.Told) : Type 0 where
+pub record SideGives (f g : Machine) (p q : Known) (u : UrbId) (t : Transfer) (told : Told) : Type 0 where
   pub same : g ≡ f
   pub fresh : Fresh f p q (entry p.number (Give u) (Status told.code) None ∷ [])
   pub urb : told.urb ≡ u.0
   pub transfer : told.transfer ≡ Some t
-
--- what a host's given URB tells
-abbrev pub content_of : tokens.Told → Content
-content_of t = record { urb = record { 0 = t.urb }; code = t.code; transfer = t.transfer }
 
 -- which handlers run, and which URBs have a home
 abbrev pub side_runs : Machine → Known → Type 0 → Runs

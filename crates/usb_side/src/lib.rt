@@ -7,6 +7,5 @@ mod side;
 mod step;
 
 pub use giving::give_back;
-pub use handlers::HostGiven;
 pub use side::HostSide;
 pub use step::{one_step, turn_once};

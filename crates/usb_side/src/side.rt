@@ -5,10 +5,9 @@ ghost use Rattle.usb_machine.specs.declared.transfer.Transfer.{Transfer};
 ghost use Rattle.usb_machine.specs.Tokens.{IsWholeServer};
 ghost use Rattle.usb_side.specs.Side.{IsWholeSide, side_knows, SideTakes, SideLooks, SideFinishes, SideGives};
 
-use crate::handlers::HostGiven;
 use std::sync::Wait;
-use usb_machine::{ServerToken, Serves, Transfer};
-use usb_serve::{Look, Side};
+use usb_machine::{Look, ServerToken, Serves, Transfer};
+use usb_serve::Side;
 use usb_types::{Code, UrbId};
 
 /// A host with its server.
@@ -44,7 +43,7 @@ impl<'a, H: Serves, R: Wait> HostSide<'a, H, R> {
 }
 
 impl<H: Serves, R: Wait> Side for HostSide<'_, H, R> {
-    type Given = HostGiven<H::Given>;
+    type Given = H::Given;
 
     ghost knows = { λ s. side_knows (H.machine s.host.now) (H.known (H.Server.own s.server)) (H.Server.given s.server) (IsWholeSide (H.machine s.host.now) (H.is_of s.host.now (H.Server.own s.server)) (H.known (H.Server.own s.server)) (H.Server.pending s.server) (H.Server.given s.server) (H.Server.has_room s.server)) (H.is_settled s.host.now s.server) };
 
@@ -54,28 +53,22 @@ impl<H: Serves, R: Wait> Side for HostSide<'_, H, R> {
 
     ghost finishes = { λ s u code done z. SideFinishes (H.machine s.host.now) (H.machine z.host.now) (H.known (H.Server.own s.server)) (H.known (H.Server.own z.server)) u code done };
 
-    ghost gives = { λ s u t y z. SideGives (H.machine s.host.now) (H.machine z.host.now) (H.known (H.Server.own s.server)) (H.known (H.Server.own z.server)) u t (H.Given.told y.given) };
+    ghost gives = { λ s u t y z. SideGives (H.machine s.host.now) (H.machine z.host.now) (H.known (H.Server.own s.server)) (H.known (H.Server.own z.server)) u t (H.Given.told y) };
 
     fn take(&mut self, ep: u32) -> Option<(UrbId, Transfer)> {
         self.host.take(self.rt, &mut self.server, ep)
     }
 
     fn look(&mut self, urb: UrbId) -> Look {
-        match self.host.look(self.rt, &mut self.server, urb) {
-            usb_machine::Look::Clean => Look::Clean,
-            usb_machine::Look::Marked(why) => Look::Marked(why),
-            usb_machine::Look::MarkedSoon => Look::MarkedSoon,
-        }
+        self.host.look(self.rt, &mut self.server, urb)
     }
 
     fn finish(&mut self, urb: UrbId, code: Code) -> bool {
         self.host.finish(self.rt, &mut self.server, urb, code)
     }
 
-    fn give(&mut self, urb: UrbId, t: Transfer) -> HostGiven<H::Given> {
-        HostGiven {
-            given: self.host.give(self.rt, &mut self.server, urb, t),
-        }
+    fn give(&mut self, urb: UrbId, t: Transfer) -> H::Given {
+        self.host.give(self.rt, &mut self.server, urb, t)
     }
 
     fn may_give(&self) -> bool {

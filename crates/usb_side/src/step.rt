@@ -6,7 +6,6 @@ ghost use Rattle.usb_side.specs.Round.{TurnGave};
 ghost use Rattle.usb_side.specs.Handled.{Stepped};
 ghost use Rattle.usb_machine.specs.History.{HasHome};
 
-use crate::handlers::HostGiven;
 use crate::side::HostSide;
 use std::sync::Wait;
 use usb_machine::Serves;
@@ -18,12 +17,12 @@ use usb_xfer::Device;
 pub fn turn_once<H: Serves, R: Wait, D: Device>(
     side: &mut HostSide<'_, H, R>,
     controller: &mut Controller<D>,
-) -> Turn<HostGiven<H::Given>>
+) -> Turn<H::Given>
     requires room { H.Server.given side.old.server < 2 ^ 63 }
     requires agrees { Agrees (side_knows (H.machine side.old.host.now) (H.known (H.Server.own side.old.server)) (H.Server.given side.old.server) (IsWholeSide (H.machine side.old.host.now) (H.is_of side.old.host.now (H.Server.own side.old.server)) (H.known (H.Server.own side.old.server)) (H.Server.pending side.old.server) (H.Server.given side.old.server) (H.Server.has_room side.old.server)) (H.is_settled side.old.host.now side.old.server)) controller.old }
     ensures agrees { Agrees (side_knows (H.machine side.new.host.now) (H.known (H.Server.own side.new.server)) (H.Server.given side.new.server) (IsWholeSide (H.machine side.new.host.now) (H.is_of side.new.host.now (H.Server.own side.new.server)) (H.known (H.Server.own side.new.server)) (H.Server.pending side.new.server) (H.Server.given side.new.server) (H.Server.has_room side.new.server)) (H.is_settled side.new.host.now side.new.server)) controller.new }
     ensures same { H.machine side.new.host.now ≡ H.machine side.old.host.now }
-    ensures gave { TurnGave (H.machine side.old.host.now) (H.known (H.Server.own side.old.server)) (H.known (H.Server.own side.new.server)) (option_map (λ y. H.Given.told y.given) result.given) }
+    ensures gave { TurnGave (H.machine side.old.host.now) (H.known (H.Server.own side.old.server)) (H.known (H.Server.own side.new.server)) (option_map (λ y. H.Given.told y) result.given) }
 {
     controller.turn(side)
 }

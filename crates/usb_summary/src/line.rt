@@ -43,8 +43,7 @@ fn push_counts(report: &mut Buf, number: u32, counts: Counts) -> Result<(), Memo
     report.append(b"\n")
 }
 
-/// Runs the scene of a number in line order, and adds the line that says how the run went. After want of memory the text
-/// holds some prefix of the line.
+/// Runs the scene of a number in line order, and adds the line that says how the run went.
 pub fn summary(alloc: Global, number: u32, report: &mut Buf) -> Result<(), Memory>
     ensures { OnOk result (IsSummed number report.old report.new) }
 {

@@ -1,6 +1,6 @@
 -- The steps of a turn keep the rule: the turn is taken, a row is counted, the turn is given back.
 use Rattle.std.proofs.Common.{◌≡◌, ℕ, ◌+◌, ◌*◌, ◌/◌, ◌%◌, ◌^◌, ◌<◌, ◌≢◌, ◌==◌, Bool, true, false, List, [], ◌∷◌, ◌++◌, length, MatchBool, Option, Some, None, set, slice_set, slice_index, sym, refl, ap, subst, ◌∙◌, inl, inr, ⊎_elim, append-nil, arith, length-append}
-use mathlib.Core.Option.{some, none, some-injective, some-ne-none}
+use mathlib.Core.Option.{some, none, some-injective}
 use prog.Atomic.{either}
 use Rattle.std.proofs.Math.Nat.{mod-add-div, add-mul-mod_self_left}
 use lib.ListN.{get_elem?}

@@ -10,42 +10,42 @@ use Rattle.usb_side.proofs.Handling.{handler_so, handler_agrees, gave_of}
 use Rattle.usb_side.proofs.step.one_step.Goals as goal
 
 pub complete-requires-clause-handles : goal.complete-requires-clause-handles
-complete-requires-clause-handles g c =
+complete-requires-clause-handles g c κs within =
     let m : Machine = g.H.Host.machine c.args.side.now.host.now in
     let p : Known = g.H.Host.known (g.H.Server.Token.own c.args.side.now.server) in
     let q : Known = g.H.Host.known (g.H.Server.Token.own c.turn_once-given.new.side.server) in
-    let told : Told = g.H.Given.GivenBack.told c.in-Some.given.given in
-    let back : GaveBack m p q told.urb told.code told.transfer = subst (λ r. TurnGave m p q (option_map (λ y. g.H.Given.GivenBack.told y.given) r)) c.in-Some.is c.turn_once-given.ensures.gave in
+    let told : Told = g.H.Given.GivenBack.told c.in-Some.given in
+    let back : GaveBack m p q told.urb told.code told.transfer = subst (λ r. TurnGave m p q (option_map (λ y. g.H.Given.GivenBack.told y) r)) c.in-Some.is c.turn_once-given.ensures.gave in
     let same : g.H.Host.machine c.turn_once-given.new.side.host.now ≡ m = c.turn_once-given.ensures.same in
     subst (λ k. IsUrb k told.urb × (0 < (state_of q.seen told.urb).handlers)) (sym same) (gave_runs m p q told.urb told.code told.transfer back)
 
 pub complete-requires-clause-home : goal.complete-requires-clause-home
-complete-requires-clause-home g c =
+complete-requires-clause-home g c κs within =
     let m : Machine = g.H.Host.machine c.args.side.now.host.now in
     let p : Known = g.H.Host.known (g.H.Server.Token.own c.args.side.now.server) in
     let q : Known = g.H.Host.known (g.H.Server.Token.own c.turn_once-given.new.side.server) in
-    let told : Told = g.H.Given.GivenBack.told c.in-Some.given.given in
-    let back : GaveBack m p q told.urb told.code told.transfer = subst (λ r. TurnGave m p q (option_map (λ y. g.H.Given.GivenBack.told y.given) r)) c.in-Some.is c.turn_once-given.ensures.gave in
+    let told : Told = g.H.Given.GivenBack.told c.in-Some.given in
+    let back : GaveBack m p q told.urb told.code told.transfer = subst (λ r. TurnGave m p q (option_map (λ y. g.H.Given.GivenBack.told y) r)) c.in-Some.is c.turn_once-given.ensures.gave in
     let same : g.H.Host.machine c.turn_once-given.new.side.host.now ≡ m = c.turn_once-given.ensures.same in
     subst (λ k. HasHome k told.urb) (sym same) (gave_home m p q told.urb told.code told.transfer back)
 
 pub complete-requires-clause-homes : goal.complete-requires-clause-homes
-complete-requires-clause-homes g c =
+complete-requires-clause-homes g c κs within =
     let m : Machine = g.H.Host.machine c.args.side.now.host.now in
     let p : Known = g.H.Host.known (g.H.Server.Token.own c.args.side.now.server) in
     let q : Known = g.H.Host.known (g.H.Server.Token.own c.turn_once-given.new.side.server) in
-    let told : Told = g.H.Given.GivenBack.told c.in-Some.given.given in
-    let back : GaveBack m p q told.urb told.code told.transfer = subst (λ r. TurnGave m p q (option_map (λ y. g.H.Given.GivenBack.told y.given) r)) c.in-Some.is c.turn_once-given.ensures.gave in
+    let told : Told = g.H.Given.GivenBack.told c.in-Some.given in
+    let back : GaveBack m p q told.urb told.code told.transfer = subst (λ r. TurnGave m p q (option_map (λ y. g.H.Given.GivenBack.told y) r)) c.in-Some.is c.turn_once-given.ensures.gave in
     let same : g.H.Host.machine c.turn_once-given.new.side.host.now ≡ m = c.turn_once-given.ensures.same in
     λ u i. subst (λ k. HasHome k u) (sym same) (c.requires.homes u i)
 
 pub complete-requires-clause-transfer : goal.complete-requires-clause-transfer
-complete-requires-clause-transfer g c =
+complete-requires-clause-transfer g c κs within =
     let m : Machine = g.H.Host.machine c.args.side.now.host.now in
     let p : Known = g.H.Host.known (g.H.Server.Token.own c.args.side.now.server) in
     let q : Known = g.H.Host.known (g.H.Server.Token.own c.turn_once-given.new.side.server) in
-    let told : Told = g.H.Given.GivenBack.told c.in-Some.given.given in
-    let back : GaveBack m p q told.urb told.code told.transfer = subst (λ r. TurnGave m p q (option_map (λ y. g.H.Given.GivenBack.told y.given) r)) c.in-Some.is c.turn_once-given.ensures.gave in
+    let told : Told = g.H.Given.GivenBack.told c.in-Some.given in
+    let back : GaveBack m p q told.urb told.code told.transfer = subst (λ r. TurnGave m p q (option_map (λ y. g.H.Given.GivenBack.told y) r)) c.in-Some.is c.turn_once-given.ensures.gave in
     let same : g.H.Host.machine c.turn_once-given.new.side.host.now ≡ m = c.turn_once-given.ensures.same in
     gave_transfer m p q told.urb told.code told.transfer back
 
@@ -54,8 +54,8 @@ returns-in-Some-clause-stepped g c =
     let m : Machine = g.H.Host.machine c.args.side.now.host.now in
     let p : Known = g.H.Host.known (g.H.Server.Token.own c.args.side.now.server) in
     let q : Known = g.H.Host.known (g.H.Server.Token.own c.turn_once-given.new.side.server) in
-    let told : Told = g.H.Given.GivenBack.told c.in-Some.given.given in
-    let back : GaveBack m p q told.urb told.code told.transfer = subst (λ r. TurnGave m p q (option_map (λ y. g.H.Given.GivenBack.told y.given) r)) c.in-Some.is c.turn_once-given.ensures.gave in
+    let told : Told = g.H.Given.GivenBack.told c.in-Some.given in
+    let back : GaveBack m p q told.urb told.code told.transfer = subst (λ r. TurnGave m p q (option_map (λ y. g.H.Given.GivenBack.told y) r)) c.in-Some.is c.turn_once-given.ensures.gave in
     let same : g.H.Host.machine c.turn_once-given.new.side.host.now ≡ m = c.turn_once-given.ensures.same in
     let t = gave_transfer m p q told.urb told.code told.transfer back in
     let z : Known = g.H.Host.known (g.H.Server.Token.own c.complete.new.side.server) in (
@@ -73,8 +73,8 @@ returns-in-Some-clause-agrees g c =
     let m : Machine = g.H.Host.machine c.args.side.now.host.now in
     let p : Known = g.H.Host.known (g.H.Server.Token.own c.args.side.now.server) in
     let q : Known = g.H.Host.known (g.H.Server.Token.own c.turn_once-given.new.side.server) in
-    let told : Told = g.H.Given.GivenBack.told c.in-Some.given.given in
-    let back : GaveBack m p q told.urb told.code told.transfer = subst (λ r. TurnGave m p q (option_map (λ y. g.H.Given.GivenBack.told y.given) r)) c.in-Some.is c.turn_once-given.ensures.gave in
+    let told : Told = g.H.Given.GivenBack.told c.in-Some.given in
+    let back : GaveBack m p q told.urb told.code told.transfer = subst (λ r. TurnGave m p q (option_map (λ y. g.H.Given.GivenBack.told y) r)) c.in-Some.is c.turn_once-given.ensures.gave in
     let same : g.H.Host.machine c.turn_once-given.new.side.host.now ≡ m = c.turn_once-given.ensures.same in
     let t = gave_transfer m p q told.urb told.code told.transfer back in
     let both = handler_agrees (λ s. g.H.Host.machine s.host.now) (λ s. g.H.Host.known (g.H.Server.Token.own s.server)) m _ _ _ (λ s u t z k. k) (λ s u t r z k. k) (λ s u z k. k) _ _ _ c.turn_once-given.new.controller
@@ -87,8 +87,8 @@ returns-in-Some-clause-same g c =
     let m : Machine = g.H.Host.machine c.args.side.now.host.now in
     let p : Known = g.H.Host.known (g.H.Server.Token.own c.args.side.now.server) in
     let q : Known = g.H.Host.known (g.H.Server.Token.own c.turn_once-given.new.side.server) in
-    let told : Told = g.H.Given.GivenBack.told c.in-Some.given.given in
-    let back : GaveBack m p q told.urb told.code told.transfer = subst (λ r. TurnGave m p q (option_map (λ y. g.H.Given.GivenBack.told y.given) r)) c.in-Some.is c.turn_once-given.ensures.gave in
+    let told : Told = g.H.Given.GivenBack.told c.in-Some.given in
+    let back : GaveBack m p q told.urb told.code told.transfer = subst (λ r. TurnGave m p q (option_map (λ y. g.H.Given.GivenBack.told y) r)) c.in-Some.is c.turn_once-given.ensures.gave in
     let same : g.H.Host.machine c.turn_once-given.new.side.host.now ≡ m = c.turn_once-given.ensures.same in
     let t = gave_transfer m p q told.urb told.code told.transfer back in
     let both = handler_agrees (λ s. g.H.Host.machine s.host.now) (λ s. g.H.Host.known (g.H.Server.Token.own s.server)) m _ _ _ (λ s u t z k. k) (λ s u t r z k. k) (λ s u z k. k) _ _ _ c.turn_once-given.new.controller

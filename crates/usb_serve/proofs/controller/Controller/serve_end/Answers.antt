@@ -1,4 +1,4 @@
-use Rattle.std.proofs.Common.{◌<◌, refl, sym, ap, ◌∙◌, subst, arith, length, length-set, inl, inr, true, false, List, ℕ}
+use Rattle.std.proofs.Common.{◌<◌, ◌≤◌, ◌+◌, refl, sym, ap, ◌∙◌, subst, arith, length, length-set, inl, inr, true, false, List, ℕ}
 use Rattle.std.specs.Prelude.{slice_get, Contains}
 use Rattle.usb_serve.specs.declared.controller.Held.{Held}
 use Rattle.usb_serve.specs.declared.controller.EndRow.{EndRow}
@@ -10,6 +10,8 @@ use Rattle.usb_serve.proofs.Looks.{stays_at}
 use Rattle.usb_serve.proofs.Agreeing.{open_kept}
 use Rattle.usb_serve.proofs.Serves.{put_back, out_at, passes_skips, passes_waits, passes_late, ends_at}
 use Rattle.usb_serve.proofs.Settling.{held_window, accepted_size, step_waits, step_ended, first_held, among, same_number, waits_on, agrees_moved, agrees_left, both_keep, both_none, left_here, left_elsewhere}
+use Rattle.usb_serve.specs.SoFar.{AreSoFar, GoesOn}
+use Rattle.usb_serve.proofs.SoFars.{so_weaker, so_moved, so_left}
 use Rattle.usb_serve.proofs.controller.Controller.serve_end.Goals as goal
 
 pub move_first-requires-clause-device : goal.move_first-requires-clause-device
@@ -22,7 +24,8 @@ move_first-requires-clause-first g c row h others at clean first =
 
 pub returns-in-None-clause-served : goal.returns-in-None-clause-served
 returns-in-None-clause-served g c = let t = c.in-None.ensures in
-    passes_skips g.S.Side.finishes g.S.Side.gives g.D.Device.replies g.D.Device.items_used c.args.ep _ _ t.row t.at t.skipped (λ i. record { side = c.args.side.now; devices = t.same_devices i; ends = t.same_ends i })
+    passes_skips g.S.Side.finishes g.D.Device.replies g.D.Device.items_used c.args.ep _ (GoesOn (g.S.Side.knows c.args.side.now) c.args.self.now.ends.items c.args.ep (g.S.Side.knows c.args.side.now) c.move_first.new.self.ends.items (c.args.ep + 1)) _ t.row t.at t.skipped (λ i. record { side = c.args.side.now; devices = t.same_devices i; ends = t.same_ends i })
+    (λ so so_far. so_weaker (g.S.Side.knows c.args.side.now) (λ f. c.args.ep ≤ f) (λ f. c.args.ep + 1 ≤ f) so c.move_first.new.self.ends.items (λ f l. omega arith) (subst (AreSoFar (g.S.Side.knows c.args.side.now) (λ f. c.args.ep ≤ f) so) (sym t.same_ends) so_far))
 
 pub finish-requires-clause-unfinished : goal.finish-requires-clause-unfinished
 finish-requires-clause-unfinished g c = let k = g.S.Side.knows c.args.side.now in let s = c.args.self.now in let e = c.args.ep in let m = c.in-Some.moved in let t = c.in-Some.ensures in let v = t.moves in let o = c.requires.opens v.row v.at in
@@ -53,7 +56,8 @@ returns-in-None-ended-clause-served g c = let k = g.S.Side.knows c.args.side.now
     let back = put_back s.ends.items mid.ends.items now.ends.items e v.row v.others m.held (record v.first { transfer = v.now }) true t.ends_so put t.held_so in
     let is = step_waits m.step v.runs.stopped (sym c.in-None-ended.ensures) in
     let devices = ap (λ w. w.items) c.put_first.ensures.devices ∙ t.devices_so in
-    passes_waits g.S.Side.finishes g.S.Side.gives g.D.Device.replies g.D.Device.items_used e _ _ m.changed m.step is v t.says (λ i. record { side = c.args.side.now; devices = devices i; ends = back i })
+    passes_waits g.S.Side.finishes g.D.Device.replies g.D.Device.items_used e _ (GoesOn k s.ends.items e k now.ends.items (e + 1)) _ m.changed m.step is v t.says (λ i. record { side = c.args.side.now; devices = devices i; ends = back i })
+    (λ so so_far. so_moved k k s c.requires.agrees (stays_at k).keeps (stays_at k).none g.D.Device.replies e m.step v now so so_far true (stays_at k).pending back (inl is))
 
 pub returns-else-finish-clause-agrees : goal.returns-else-finish-clause-agrees
 returns-else-finish-clause-agrees g c = let k = g.S.Side.knows c.args.side.now in let s = c.args.self.now in let e = c.args.ep in let m = c.in-Some.moved in let t = c.in-Some.ensures in let v = t.moves in let o = c.requires.opens v.row v.at in
@@ -91,7 +95,9 @@ returns-else-finish-clause-served g c = let k = g.S.Side.knows c.args.side.now i
     let code = c.in-Some-ended.code in
     let is = step_ended m.step code (sym c.in-Some-ended.ensures) in
     let answered = subst (λ (h : Held). g.S.Side.finishes c.args.side.now h.urb code false c.finish.new.self) t.held_so (subst (λ b. g.S.Side.finishes c.args.side.now m.held.urb code b c.finish.new.self) c.if-finish.false f.finishes) in
-    passes_late g.S.Side.finishes g.S.Side.gives g.D.Device.replies g.D.Device.items_used e _ _ m.changed m.step code is v t.says c.finish.new.self answered (λ i. record { side = c.finish.new.self; devices = devices i; ends = back i })
+    let new = g.S.Side.knows c.finish.new.self in let l = f.late c.if-finish.false in
+    passes_late g.S.Side.finishes g.D.Device.replies g.D.Device.items_used e _ (GoesOn k s.ends.items e new now.ends.items (e + 1)) _ m.changed m.step code is v t.says c.finish.new.self answered (λ i. record { side = c.finish.new.self; devices = devices i; ends = back i })
+    (λ so so_far. so_moved k new s c.requires.agrees f.keeps l.1 g.D.Device.replies e m.step v now so so_far false f.pending back (inr (subst new.is_marked (ap (λ (h : Held). h.urb.0) t.held_so) l.0)))
 
 pub give-requires-clause-pending : goal.give-requires-clause-pending
 give-requires-clause-pending g c = let k = g.S.Side.knows c.args.side.now in let s = c.args.self.now in let e = c.args.ep in let m = c.in-Some.moved in let t = c.in-Some.ensures in let v = t.moves in let o = c.requires.opens v.row v.at in
@@ -125,4 +131,14 @@ returns-then-finish-clause-served g c = let k = g.S.Side.knows c.args.side.now i
     let is = step_ended m.step code (sym c.in-Some-ended.ensures) in
     let answered = subst (λ (h : Held). g.S.Side.finishes c.args.side.now h.urb code true c.finish.new.self) t.held_so (subst (λ b. g.S.Side.finishes c.args.side.now m.held.urb code b c.finish.new.self) c.if-finish.true f.finishes) in
     let gave = subst (λ (h : Held). g.S.Side.gives c.finish.new.self h.urb h.transfer c.give.result c.give.new.self) t.held_so c.give.ensures.gives in
-    (ends_at g.S.Side.finishes g.S.Side.gives g.D.Device.replies g.D.Device.items_used e _ _ c.give.result m.step code is v c.finish.new.self answered gave (λ i. record { side = c.give.new.self; devices = t.devices_so i; ends = t.ends_so i }), refl)
+    let w = c.give.ensures in let mid = g.S.Side.knows c.finish.new.self in let new = g.S.Side.knows c.give.new.self in
+    let only = subst (λ (h : Held). FinishesOnly h.urb.0 k mid) t.held_so f.only in
+    let leaves = subst (λ (h : Held). Leaves mid new h.urb.0) t.held_so w.leaves in (
+      ends_at g.S.Side.finishes g.S.Side.gives g.D.Device.replies g.D.Device.items_used e _ _ c.give.result m.step code is v c.finish.new.self answered gave (λ i. record { side = c.give.new.self; devices = t.devices_so i; ends = t.ends_so i }),
+      refl,
+      λ so so_far. so_left k new s c.requires.agrees
+          (both_keep g.D.Device.replies k s c.requires.agrees e m.step v o mid new f.pending f.keeps only leaves w.keeps w.none)
+          (both_none g.D.Device.replies k s c.requires.agrees e m.step v o mid new f.pending f.keeps only leaves w.keeps w.none) g.D.Device.replies e m.step v c.move_first.new.self so so_far t.ends_so
+          (left_here g.D.Device.replies k s c.requires.agrees e m.step v o mid new f.pending f.keeps only leaves w.keeps w.none)
+          (left_elsewhere g.D.Device.replies k s c.requires.agrees e m.step v o mid new f.pending f.keeps only leaves w.keeps w.none),
+    )
