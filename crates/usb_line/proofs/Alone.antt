@@ -12,6 +12,7 @@ use Rattle.usb_machine.specs.declared.transfer.Transfer.{Transfer}
 use Rattle.usb_machine.specs.State.{unlinking}
 use Rattle.usb_machine.specs.History.{state_of, pending_of, sent_of}
 use Rattle.usb_machine.specs.Calls.{claim_entries, unblock_entries}
+use Rattle.usb_machine.specs.HostCalls.{rested_of}
 use Rattle.usb_xfer.specs.declared.packet.Step.{Step}
 use Rattle.usb_xfer.specs.declared.packet.Step.TheVariants.{More, Waiting, Ended}
 use Rattle.usb_xfer.specs.Moved.{moved_state}
@@ -195,13 +196,13 @@ not_snoc [] x e = cc
 not_snoc (y ∷ xs) x e = cc
 
 module _ (s : Scene) (p : ℕ) (f : Progress) where
-  same_claims : (us vs : List ℕ) (rests more : List (Option ℕ)) (m k : Progress) → ClaimsEach s p f us rests m → ClaimsEach s p f vs more k → us ≡ vs → (rests ≡ more) × (m ≡ k)
+  same_claims : (us vs : List ℕ) (rests more : List (Option Transfer)) (m k : Progress) → ClaimsEach s p f us rests m → ClaimsEach s p f vs more k → us ≡ vs → (rests ≡ more) × (m ≡ k)
   same_claims _ _ _ _ _ _ none none e = (refl, refl)
   same_claims _ _ _ _ _ _ none (one vs more v k l b w) e = absurd (not_snoc vs v e)
   same_claims _ _ _ _ _ _ (one us rests u m k a w) none e = absurd (not_snoc us u (sym e))
   same_claims _ _ _ _ _ _ (one us rests u m k a w) (one vs more v n l b y) e =
       let x = snoc_same us vs u v e in let r = same_claims us vs rests more m n a b x.0 in let last = wait_from s u v m n k l x.1 r.1 w y in
-      ((λ i. r.0 i ++ (state_of (last i).history (x.1 i)).rest ∷ []), (λ i. adds (last i) (claim_entries p (x.1 i) (state_of (last i).history (x.1 i)).rest)))
+      ((λ i. r.0 i ++ rested_of (last i).history (x.1 i) ∷ []), (λ i. adds (last i) (claim_entries p (x.1 i) (state_of (last i).history (x.1 i)).rest)))
 
 module _ (s : Scene) (f : Progress) where
   same_closes : (us vs : List ℕ) (m k : Progress) → Closes s f us m → Closes s f vs k → us ≡ vs → m ≡ k
@@ -252,12 +253,12 @@ module _ (s : Scene) (f : Progress) (i : ℕ) (c : Call) where
   same_makes _ _ _ _ (shut_down r n is2 up w) (served m e is g idle) = let z = sym is ∙ is2 in cc
   same_makes _ _ _ _ (killed u m is w) (killed v n is2 y) =
       let urb = same_kill u v (sym is ∙ is2) in let last = wait_from s u v (killing p u f) (killing p v f) m n urb (λ j. killing p (urb j) f) w y in (
-        (λ j. call_record f i c (told.Buffer (state_of (last j).history (urb j)).rest) (unlinking (state_of f.history (urb j)) ∷ []) []),
+        (λ j. call_record f i c (told.Buffer (state_of (last j).history (urb j)).rest) (unlinking (state_of f.history (urb j)) ∷ []) (rested_of (last j).history (urb j) ∷ [])),
         (λ j. adds (last j) (claim_entries p (urb j) (state_of (last j).history (urb j)).rest ++ unblock_entries p (urb j))),
       )
   same_makes _ _ _ _ (poisoned u m is w) (poisoned v n is2 y) =
       let urb = same_poison u v (sym is ∙ is2) in let last = wait_from s u v (killing p u f) (killing p v f) m n urb (λ j. killing p (urb j) f) w y in (
-        (λ j. call_record f i c (told.Buffer (state_of (last j).history (urb j)).rest) (unlinking (state_of f.history (urb j)) ∷ []) []),
+        (λ j. call_record f i c (told.Buffer (state_of (last j).history (urb j)).rest) (unlinking (state_of f.history (urb j)) ∷ []) (rested_of (last j).history (urb j) ∷ [])),
         (λ j. adds (last j) (claim_entries p (urb j) (state_of (last j).history (urb j)).rest)),
       )
   same_makes _ _ _ _ (killed u m is w) (poisoned v n is2 y) = let z = sym is ∙ is2 in cc

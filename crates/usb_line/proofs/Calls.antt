@@ -1,7 +1,7 @@
 -- The calls of a run in line order keep what holds between calls.
 use Rattle.std.proofs.Common.{ℕ, ◌≡◌, ◌≢◌, ◌+◌, ◌<◌, ◌≤◌, ⊎_elim, Bool, true, false, cond, eqb, Option, Some, List, [], ◌∷◌, ◌++◌, length, map, refl, sym, ap, ◌∙◌, subst, arith, append_assoc, append-nil, eq-eqb, ne_eqb, true≢false}
 use Rattle.std.specs.Prelude.{slice_get}
-use Rattle.std.specs.List.{flat_map, All, sum_by}
+use Rattle.std.specs.List.{flat_map, zip, All, sum_by}
 use Rattle.std.proofs.lemmas.List.{map-append}
 use Rattle.std.proofs.lemmas.List.Sums.{sum_by_push}
 use Rattle.std.proofs.lemmas.List.Elements.{filter-append, All-nil, All-push}
@@ -11,7 +11,9 @@ use native.Mathlib.Decide.{ℕ_discrete}
 use Rattle.usb_types.specs.declared.errno.Code.{Code}
 use Rattle.usb_machine.specs.State.{unlinking}
 use Rattle.usb_machine.specs.History.{state_of}
+use Rattle.usb_machine.specs.declared.transfer.Transfer.{Transfer}
 use Rattle.usb_machine.specs.Calls.{claim_entries, unblock_entries}
+use Rattle.usb_machine.specs.HostCalls.{rested_of}
 use Rattle.usb_machine.specs.declared.entry.TheConstants.{SERVER, HUB}
 use Rattle.usb_machine.specs.Parts.{part_of}
 use Rattle.usb_scene.specs.declared.scene.Scene.{Scene}
@@ -24,12 +26,14 @@ use Rattle.usb_trace.specs.declared.rows.HostCall.TheVariants as host_call
 use Rattle.usb_trace.specs.declared.rows.CallAnswer.{CallAnswer}
 use Rattle.usb_trace.specs.declared.rows.CallAnswer.TheVariants as told
 use Rattle.usb_trace.specs.Plan.{pass_of, main_pass, host_call_of, calls_of, is_hub}
-use Rattle.usb_trace.specs.Run.{CallRecord, urbs_of, opening, call_entries, host_call_entries, IsMade, IsAnswered, down_after, IsFound, AreFound, done_by}
+use Rattle.usb_trace.specs.Run.{CallRecord, urbs_of, opening, call_entries, host_call_entries, claimed_urbs, claims_in, IsMade, IsAnswered, down_after, IsFound, AreFound, done_by}
 use Rattle.usb_line.specs.Line.{Progress, AreDowns, begun, adds, call_record, with_call_record, woken, killing, shutting, ClaimsEach, none, one, Makes, at_once, served, killed, poisoned, shut_down, IsLine, start, call}
 use Rattle.usb_line.proofs.Held.{rejects_at, down_at}
 use Rattle.usb_line.proofs.HostCalls.{raises, withdraws, is_hubs, named, host_call_hubs, sum_raised, sum_withdrawn, withdraws_named, withdraws_own, none_or_named}
 use Rattle.usb_line.proofs.Effects.{rejects_effect, down_effect}
+use Rattle.usb_trace.specs.Claims.{claimed_by, numbers_of}
 use Rattle.usb_trace.proofs.Entries.{AreOf, part_own, part_other}
+use Rattle.usb_trace.proofs.Claims.{AreNoClaim, claimed_none}
 use Rattle.usb_line.proofs.Serving.{Serves}
 use Rattle.usb_line.proofs.Turns.{gives_back_serve, gives_back_turned, idle_serves, idle_turned}
 use Rattle.usb_line.proofs.Waits.{woken_serves, woken_turned, wait_turned}
@@ -37,6 +41,8 @@ use Rattle.usb_line.proofs.ReadsFollow.{reads_pass, begun_serves}
 use Rattle.usb_line.proofs.Passes.{not_server, not_main, main_not_server, is_pass, other_threads, thread_at, is_thread, hub_pass}
 use Rattle.usb_line.proofs.Scripted.{placed, calls_by, next_call, All-middle, All-front, of_thread, only_calls}
 use Rattle.usb_line.proofs.Makings.{IsMadeBy, made_none, made_turned, kill_made, poison_made}
+use Rattle.usb_line.proofs.Longer.{makes_longer}
+use Rattle.usb_line.proofs.Claiming.{claims_grown, claims_stay, poison_claims, kill_claims, number_told}
 use Rattle.usb_line.proofs.Nows.{CanCall, IsCalled, now_called}
 use Rattle.usb_line.proofs.Downs.{down_called}
 
@@ -57,6 +63,7 @@ pub record Goes (s : Scene) (f : Progress) : Type 0 where
   pub serves : Serves s f
   pub threads : (i : ℕ) → i < length s.threads → part_of f.history (pass_of s i) ≡ flat_map (call_entries s) (done_by i f.call_records)
   pub main : part_of f.history (main_pass s) ≡ opening s
+  pub claims : (i : ℕ) → i < length s.threads → claimed_by (pass_of s i) f.history ≡ flat_map (claims_in s) (done_by i f.call_records)
   pub others : (p : ℕ) → p ≢ SERVER → p ≢ main_pass s → ((i : ℕ) → i < length s.threads → p ≢ pass_of s i) → part_of f.history p ≡ []
   pub told : All (IsMade s) f.call_records
   pub downs : (i : ℕ) → i < length s.threads → AreFound s false (done_by i f.call_records)
@@ -75,6 +82,7 @@ goes_begun s good = record {
   serves = begun_serves s good;
   threads = λ i l. part_other (main_pass s) (pass_of s i) (opening s) (λ e. not_main s i l (sym e)) reads;
   main = part_own (main_pass s) (opening s) reads;
+  claims = λ i l. claimed_none (pass_of s i) [] (opening s) (subst AreNoClaim (sym (part_other (main_pass s) (pass_of s i) (opening s) (λ e. not_main s i l (sym e)) reads)) tt);
   others = λ p off main none. part_other (main_pass s) p (opening s) (λ e. main (sym e)) reads;
   told = All-nil (IsMade s);
   downs = λ i l. tt;
@@ -195,6 +203,14 @@ module _ (s : Scene) (good : IsWellFormed s) (f : Progress) (i : ℕ) (c : Call)
         ∙ (sym (flat_map-append (call_entries s) (done_by i f.call_records) (d ∷ [])) ∙ ap (flat_map (call_entries s)) (sym done_own)))))
         (λ off. done.made.elsewhere (pass_of s j) (not_server s j) (other_threads s good j i l near off) ∙ (old.threads j l ∙ ap (flat_map (call_entries s)) (sym (done_other j off))))
 
+    claims_now : (j : ℕ) → j < length s.threads → claimed_by (pass_of s j) k.history ≡ flat_map (claims_in s) (done_by j k.call_records)
+    claims_now j l = dite (ℕ_discrete j i)
+        (λ is. subst (λ j. claimed_by (pass_of s j) k.history ≡ flat_map (claims_in s) (done_by j k.call_records)) (sym is)
+        (done.claims ∙ ((λ x. old.claims i near x ++ sym (append-nil (claims_in s d)) x)
+        ∙ (sym (flat_map-append (claims_in s) (done_by i f.call_records) (d ∷ [])) ∙ ap (flat_map (claims_in s)) (sym done_own)))))
+        (λ off. claims_stay f m (pass_of s j) done.longer (done.made.elsewhere (pass_of s j) (not_server s j) (other_threads s good j i l near off))
+        ∙ (old.claims j l ∙ ap (flat_map (claims_in s)) (sym (done_other j off))))
+
     not_hubs : (b : Bool) → is_hubs (host_call_of s c) ≡ b → p ≢ HUB → is_hubs (host_call_of s c) ≡ false
     not_hubs true e off = absurd (off (only_hub e))
     not_hubs false e off = e
@@ -247,9 +263,10 @@ module _ (s : Scene) (good : IsWellFormed s) (f : Progress) (i : ℕ) (c : Call)
     counted = record {
       serves = keeps_serving done.made.serves;
       threads = parts;
+      claims = claims_now;
       main = done.made.elsewhere (main_pass s) (main_not_server s) (λ e. not_main s i near (sym e)) ∙ old.main;
       others = λ q off main none. done.made.elsewhere q off (none i near) ∙ old.others q off main none;
-      told = subst (All (IsMade s)) (sym call_records_are) (All-push (IsMade s) f.call_records d old.told record { thread = subst (λ j. j < length s.threads) (sym thread_is) near; answered = done.answered });
+      told = subst (All (IsMade s)) (sym call_records_are) (All-push (IsMade s) f.call_records d old.told record { thread = subst (λ j. j < length s.threads) (sym thread_is) near; answered = done.answered; claims = done.each });
       downs = downs_now;
       all_downs = subst (AreDowns s false) (sym call_records_are) (AreDowns-push s false f.call_records d old.all_downs (found ∙ sym old.all_down));
       all_down = ap (down_by s false) call_records_are ∙ (down_by-push s false f.call_records d ∙ ap (λ b. down_after b (host_call_of s d.call) d.answer) (old.all_down ∙ sym done.made.down));
@@ -283,28 +300,42 @@ module _ (s : Scene) (good : IsWellFormed s) (f : Progress) (i : ℕ) (c : Call)
       counted (call_record f i c told.Nothing [] []) e refl refl refl record {
         made = subst (λ dd. IsMadeBy s f p (host_call_entries s p c dd told.Nothing [] [] f.down) e) (sym is) last;
         answered = subst (λ dd. IsAnswered s (call_record f i c told.Nothing [] []) dd told.Nothing) (sym is) refl;
+        longer = makes_longer s f i c (call_record f i c told.Nothing [] []) e (served m e is gave idle);
+        each = subst (λ dd. 0 ≡ length (claimed_urbs s dd told.Nothing)) (sym is) refl;
+        claims = subst (λ dd. claimed_by p e.history ≡ claimed_by p f.history ++ zip (claimed_urbs s dd told.Nothing) []) (sym is)
+            (claims_grown f e p (makes_longer s f i c (call_record f i c told.Nothing [] []) e (served m e is gave idle)) [] last.own tt ∙ sym (append-nil (claimed_by p f.history)));
       }
   makes_go _ _ (killed u m is waits) =
       let rest : Option ℕ = (state_of m.history u).rest in
       let mark : Code = unlinking (state_of f.history u) in
-      let d : CallRecord = call_record f i c (told.Buffer rest) (mark ∷ []) [] in
+      let found : Option Transfer = rested_of m.history u in
+      let d : CallRecord = call_record f i c (told.Buffer rest) (mark ∷ []) (found ∷ []) in
       let k : Progress = adds m (claim_entries p u rest ++ unblock_entries p u) in
       counted d k refl refl refl record {
-        made = subst (λ dd. IsMadeBy s f p (host_call_entries s p c dd (told.Buffer rest) (mark ∷ []) [] f.down) k) (sym is) (kill_made s p u (is_pass s i near) good (not_server s i) f m old.serves waits);
-        answered = subst (λ dd. IsAnswered s d dd (told.Buffer rest)) (sym is) refl;
+        made = subst (λ dd. IsMadeBy s f p (host_call_entries s p c dd (told.Buffer rest) (mark ∷ []) (numbers_of (found ∷ [])) f.down) k) (sym is) (kill_made s p u (is_pass s i near) good (not_server s i) f m old.serves waits);
+        answered = subst (λ dd. IsAnswered s d dd (told.Buffer rest)) (sym is) (refl, number_told s p u (is_pass s i near) good (not_server s i) f m old.serves waits);
+        longer = makes_longer s f i c d k (killed u m is waits);
+        each = subst (λ dd. 1 ≡ length (claimed_urbs s dd (told.Buffer rest))) (sym is) refl;
+        claims = subst (λ dd. claimed_by p k.history ≡ claimed_by p f.history ++ zip (claimed_urbs s dd (told.Buffer rest)) (found ∷ [])) (sym is)
+            (kill_claims s p u (is_pass s i near) good (not_server s i) f m old.serves waits);
       }
   makes_go _ _ (poisoned u m is waits) =
       let rest : Option ℕ = (state_of m.history u).rest in
       let mark : Code = unlinking (state_of f.history u) in
-      let d : CallRecord = call_record f i c (told.Buffer rest) (mark ∷ []) [] in
+      let found : Option Transfer = rested_of m.history u in
+      let d : CallRecord = call_record f i c (told.Buffer rest) (mark ∷ []) (found ∷ []) in
       let k : Progress = adds m (claim_entries p u rest) in
       counted d k refl refl refl record {
-        made = subst (λ dd. IsMadeBy s f p (host_call_entries s p c dd (told.Buffer rest) (mark ∷ []) [] f.down) k) (sym is) (poison_made s p u (is_pass s i near) good (not_server s i) f m old.serves waits);
-        answered = subst (λ dd. IsAnswered s d dd (told.Buffer rest)) (sym is) refl;
+        made = subst (λ dd. IsMadeBy s f p (host_call_entries s p c dd (told.Buffer rest) (mark ∷ []) (numbers_of (found ∷ [])) f.down) k) (sym is) (poison_made s p u (is_pass s i near) good (not_server s i) f m old.serves waits);
+        answered = subst (λ dd. IsAnswered s d dd (told.Buffer rest)) (sym is) (refl, number_told s p u (is_pass s i near) good (not_server s i) f m old.serves waits);
+        longer = makes_longer s f i c d k (poisoned u m is waits);
+        each = subst (λ dd. 1 ≡ length (claimed_urbs s dd (told.Buffer rest))) (sym is) refl;
+        claims = subst (λ dd. claimed_by p k.history ≡ claimed_by p f.history ++ zip (claimed_urbs s dd (told.Buffer rest)) (found ∷ [])) (sym is)
+            (poison_claims s p u (is_pass s i near) good (not_server s i) f m old.serves waits);
       }
   makes_go _ m (shut_down rests _ is up claims) = counted _ m refl refl refl (down_called s good f i c can_call is up rests m claims)
 
-claims_call_records : (s : Scene) (p : ℕ) (f : Progress) (us : List ℕ) (rests : List (Option ℕ)) (m : Progress) → ClaimsEach s p f us rests m → m.call_records ≡ f.call_records
+claims_call_records : (s : Scene) (p : ℕ) (f : Progress) (us : List ℕ) (rests : List (Option Transfer)) (m : Progress) → ClaimsEach s p f us rests m → m.call_records ≡ f.call_records
 claims_call_records s p f _ _ _ none = refl
 claims_call_records s p f _ _ _ (one us rests u m k before waits) = (wait_turned s u m k waits).call_records ∙ claims_call_records s p f us rests m before
 

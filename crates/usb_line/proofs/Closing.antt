@@ -1,6 +1,7 @@
 -- The close: main kills each URB and then sees each quiet, and nothing is left.
 use Rattle.std.proofs.Common.{ℕ, zero, suc, ◌≡◌, ◌+◌, ◌<◌, Bool, true, false, cond, eqb, Option, Some, None, List, [], ◌∷◌, ◌++◌, length, refl, sym, ap, ◌∙◌, subst, arith, append_assoc, append-nil, length-append, ne_eqb, true≢false}
-use Rattle.std.specs.List.{flat_map}
+use Rattle.std.specs.List.{flat_map, zip}
+use Rattle.std.proofs.lemmas.List.{length-map}
 use mathlib.Core.Logic.{dite}
 use native.Mathlib.Decide.{ℕ_discrete}
 use Rattle.usb_types.specs.declared.errno.Code.{Code}
@@ -16,6 +17,7 @@ use Rattle.usb_machine.specs.State.{after, unlinks, unlinking}
 use Rattle.usb_machine.specs.History.{state_of, is_of, pending_of}
 use Rattle.usb_machine.specs.Legal.{times}
 use Rattle.usb_machine.specs.Calls.{plain_entry, mark_entry, claim_entries, unblock_entries, kill_entries}
+use Rattle.usb_machine.specs.HostCalls.{rested_of, number_of}
 use Rattle.usb_machine.proofs.Steps.{state_of-snoc}
 use Rattle.usb_machine.proofs.Rooms.{pending_is_queued}
 use Rattle.usb_machine.specs.declared.transfer.Transfer.{Transfer}
@@ -26,6 +28,7 @@ use Rattle.usb_prepare.specs.Below.{below}
 use Rattle.usb_prepare.specs.Ends.{ends_of}
 use Rattle.usb_prepare.specs.Layout.{home}
 use Rattle.usb_trace.specs.Plan.{machine_of, main_pass, DriverQuestion}
+use Rattle.usb_trace.specs.Claims.{claimed_by, numbers_of}
 use Rattle.usb_trace.specs.Run.{Giveback, kills_of, seen_quiet}
 use Rattle.usb_line.specs.Line.{Progress, adds, with_takes, round_of, given_back, replies_had, had_after, killing, Gives, unlinked, ended, woken, StaysLoud, begins, goes_on, WaitsFor, already, turns, Closes, none, one}
 use Rattle.usb_trace.proofs.Entries.{AreOf, AllFollow}
@@ -40,7 +43,8 @@ use Rattle.usb_line.proofs.Serving.{stills_bare, Serves, takes_serve}
 use Rattle.usb_line.proofs.Turns.{passed, gives_serve}
 use Rattle.usb_line.proofs.Waits.{woken_serves, wait_quiet}
 use Rattle.usb_line.proofs.Passes.{main_not_server, main_is_pass}
-use Rattle.usb_line.proofs.Makings.{IsMadeBy, begun, made_none, made_entries, made_on, kill_made}
+use Rattle.usb_line.proofs.Makings.{IsMadeBy, begun, waited, made_none, made_entries, made_on, kill_made}
+use Rattle.usb_line.proofs.Claiming.{numbers-push, zip-push, kill_claims}
 use Rattle.usb_line.proofs.Downs.{in_below, all_below}
 
 same_queue : (b : Bool) (s now : UrbState) → now.queued ≡ s.queued → (cond b now s).queued ≡ s.queued
@@ -116,10 +120,11 @@ module _ (s : Scene) (good : IsWellFormed s) (n : ℕ) where
 -- main's kills of these URBs
 pub record AreKilled (s : Scene) (f : Progress) (us : List ℕ) (m : Progress) : Type 0 where
   pub marks : List Code
-  pub rests : List (Option ℕ)
+  pub rests : List (Option Transfer)
   pub marks_each : length marks ≡ length us
   pub rests_each : length rests ≡ length us
-  pub made : IsMadeBy s f (main_pass s) (kills_of (main_pass s) us marks rests) m
+  pub made : IsMadeBy s f (main_pass s) (kills_of (main_pass s) us marks (numbers_of rests)) m
+  pub claims : claimed_by (main_pass s) m.history ≡ claimed_by (main_pass s) f.history ++ zip us rests
   pub out : (v : ℕ) → 0 < times v us → (state_of m.history v).queued ≡ false
 
 kills-push : (p : ℕ) (us : List ℕ) (marks : List Code) (rests : List (Option ℕ)) (u : ℕ) (a : Code) (rest : Option ℕ) → length marks ≡ length us → length rests ≡ length us
@@ -152,11 +157,12 @@ module _ (s : Scene) (good : IsWellFormed s) where
   main = main_pass s
 
   pub closes_kill : (f : Progress) (n : ℕ) (us : List ℕ) (m : Progress) → us ≡ below n → Closes s f us m → Serves s f → AreKilled s f us m
-  closes_kill f n _ _ all none old = record { marks = []; rests = []; marks_each = refl; rests_each = refl; made = made_none s f main old; out = λ v l. absurd (omega arith) }
+  closes_kill f n _ _ all none old = record { marks = []; rests = []; marks_each = refl; rests_each = refl; made = made_none s f main old; claims = sym (append-nil (claimed_by main f.history)); out = λ v l. absurd (omega arith) }
   closes_kill f n _ _ all (one us u m k before waits) old =
       let low = (last_below us u n all).1 in
       let r = closes_kill f u us m low before old in
       let mark : Code = unlinking (state_of m.history u) in let rest : Option ℕ = (state_of k.history u).rest in
+      let found : Option Transfer = rested_of k.history u in
       let last : List Entry = claim_entries main u rest ++ unblock_entries main u in
       let kill = kill_made s main u (main_is_pass s) good (main_not_server s) m k r.made.serves waits in
       let quiet = wait_quiet s u (killing main u m) k waits in
@@ -166,11 +172,17 @@ module _ (s : Scene) (good : IsWellFormed s) where
       (λ v near. still_queued m.history (plain_entry main (Reject record { 0 = u }) ∷ mark_entry main Kill u mark ∷ []) v (tt, (tt, tt)) ∙ r.out v (subst (λ l. 0 < times v l) (sym low) (all_below u v near))) in
       record {
         marks = r.marks ++ mark ∷ [];
-        rests = r.rests ++ rest ∷ [];
+        rests = r.rests ++ found ∷ [];
         marks_each = (let a = length-append r.marks (mark ∷ []) in let b = length-append us (u ∷ []) in let c = r.marks_each in omega arith);
-        rests_each = (let a = length-append r.rests (rest ∷ []) in let b = length-append us (u ∷ []) in let c = r.rests_each in omega arith);
-        made = subst (λ xs. IsMadeBy s f main xs (adds k last)) (sym (kills-push main us r.marks r.rests u mark rest r.marks_each r.rests_each))
-            (made_on s f m (adds k last) main (kills_of main us r.marks r.rests) (kill_entries main u mark rest) r.made kill);
+        rests_each = (let a = length-append r.rests (found ∷ []) in let b = length-append us (u ∷ []) in let c = r.rests_each in omega arith);
+        made = subst (λ xs. IsMadeBy s f main xs (adds k last)) (sym (
+            ap (kills_of main (us ++ u ∷ []) (r.marks ++ mark ∷ [])) (numbers-push (machine_of s) r.rests k.history u (waited s main u (main_is_pass s) good (main_not_server s) m k r.made.serves waits).serves.legal)
+            ∙ kills-push main us r.marks (numbers_of r.rests) u mark rest r.marks_each (length-map r.rests number_of ∙ r.rests_each)))
+            (made_on s f m (adds k last) main (kills_of main us r.marks (numbers_of r.rests)) (kill_entries main u mark rest) r.made kill);
+        claims =
+            kill_claims s main u (main_is_pass s) good (main_not_server s) m k r.made.serves waits
+            ∙ (ap (λ l. l ++ (u, found) ∷ []) r.claims
+            ∙ (append_assoc (claimed_by main f.history) (zip us r.rests) ((u, found) ∷ []) ∙ ap (λ l. claimed_by main f.history ++ l) (sym (zip-push us r.rests u found r.rests_each))));
         out = λ v l. still_queued k.history last v (tt, (tt, (tt, tt))) ∙ dite (ℕ_discrete u v)
             (λ is. ap (λ (w : ℕ). (state_of k.history w).queued) (sym is) ∙ quiet.0)
             (λ off. lower v (in_below u v (let a = times-append v us (u ∷ []) in let none : cond {A = ℕ} (eqb u v) 1 0 ≡ 0 = ap (λ b. cond {A = ℕ} b 1 0) (ne_eqb u v off) in subst (λ l. 0 < times v l) low (omega arith))));
@@ -196,13 +208,13 @@ pub seen_still : (p : ℕ) (us : List ℕ) → AreStill (flat_map (seen_quiet p)
 seen_still p [] = tt
 seen_still p (u ∷ us) = (tt, (tt, seen_still p us))
 
-seen_pass : (p : ℕ) (us : List ℕ) → AreOf p (flat_map (seen_quiet p) us)
+pub seen_pass : (p : ℕ) (us : List ℕ) → AreOf p (flat_map (seen_quiet p) us)
 seen_pass p [] = tt
 seen_pass p (u ∷ us) = (refl, (refl, seen_pass p us))
 
 module _ (s : Scene) (f : Progress) (us : List ℕ) (m : Progress) (killed : AreKilled s f us m) where
   -- the whole close
-  pub closed : IsMadeBy s f (main_pass s) (kills_of (main_pass s) us killed.marks killed.rests ++ flat_map (seen_quiet (main_pass s)) us) (adds m (flat_map (seen_quiet (main_pass s)) us))
-  closed = made_on s f m (adds m (flat_map (seen_quiet (main_pass s)) us)) (main_pass s) (kills_of (main_pass s) us killed.marks killed.rests) (flat_map (seen_quiet (main_pass s)) us) killed.made
+  pub closed : IsMadeBy s f (main_pass s) (kills_of (main_pass s) us killed.marks (numbers_of killed.rests) ++ flat_map (seen_quiet (main_pass s)) us) (adds m (flat_map (seen_quiet (main_pass s)) us))
+  closed = made_on s f m (adds m (flat_map (seen_quiet (main_pass s)) us)) (main_pass s) (kills_of (main_pass s) us killed.marks (numbers_of killed.rests)) (flat_map (seen_quiet (main_pass s)) us) killed.made
       (made_entries s m (main_pass s) (flat_map (seen_quiet (main_pass s)) us) (main_not_server s) (seen_pass (main_pass s) us)
       (seen_follow s (main_pass s) (main_is_pass s) us m.history killed.out killed.made.serves.calm) (stills_bare s (flat_map (seen_quiet (main_pass s)) us) (seen_still (main_pass s) us)) killed.made.serves)

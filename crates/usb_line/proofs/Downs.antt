@@ -1,5 +1,6 @@
 -- Taking the host down: all URBs are flagged and marked, and then each is waited for and claimed.
 use Rattle.std.proofs.Common.{ℕ, zero, suc, ◌≡◌, ◌≢◌, ◌+◌, ◌<◌, true, false, cond, eqb, Option, List, [], ◌∷◌, ◌++◌, length, map, refl, sym, ap, ◌∙◌, subst, arith, append_assoc, length-append, eq-eqb, ne_eqb}
+use Rattle.std.specs.List.{zip}
 use Rattle.std.proofs.lemmas.List.{length-map}
 use mathlib.Core.Logic.{dite}
 use native.Mathlib.Decide.{ℕ_discrete}
@@ -8,6 +9,7 @@ use Rattle.usb_types.specs.declared.urb.Why.TheVariants.{Shutdown}
 use Rattle.usb_types.specs.declared.urb.Flag.TheVariants as flag
 use Rattle.usb_machine.specs.declared.entry.TheConstants.{SERVER, HUB}
 use Rattle.usb_machine.specs.declared.event.Event.TheVariants.{Flag}
+use Rattle.usb_machine.specs.declared.transfer.Transfer.{Transfer}
 use Rattle.usb_machine.specs.declared.entry.Entry.{Entry}
 use Rattle.usb_machine.specs.declared.state.UrbState.{UrbState}
 use Rattle.usb_machine.specs.State.{unlinking}
@@ -15,6 +17,7 @@ use Rattle.usb_machine.specs.History.{state_of}
 use Rattle.usb_machine.specs.Parts.{part_of, held_of}
 use Rattle.usb_machine.specs.Legal.{times, Follows}
 use Rattle.usb_machine.specs.Calls.{plain_entry, mark_entry, marks_of, claims_of, claim_entries}
+use Rattle.usb_machine.specs.HostCalls.{number_of}
 use Rattle.usb_scene.specs.declared.scene.Scene.{Scene}
 use Rattle.usb_scene.specs.WellFormed.{IsWellFormed}
 use Rattle.usb_scene.specs.declared.scene.Call.{Call}
@@ -23,9 +26,11 @@ use Rattle.usb_trace.specs.declared.rows.HostCall.TheVariants as host_call
 use Rattle.usb_trace.specs.declared.rows.CallAnswer.TheVariants as told
 use Rattle.usb_trace.specs.Plan.{machine_of, pass_of, host_call_of}
 use Rattle.usb_prepare.specs.Below.{below}
-use Rattle.usb_trace.specs.Run.{urbs_of, CallRecord, host_call_entries, IsDownAnswer, IsAnswered}
-use Rattle.usb_line.specs.Line.{Progress, adds, call_record, all_flagged, shut_marks, shutting, ClaimsEach, none, one}
+use Rattle.usb_trace.specs.Claims.{claimed_by, numbers_of}
+use Rattle.usb_trace.specs.Run.{urbs_of, CallRecord, host_call_entries, claimed_urbs, IsDownAnswer, IsAnswered}
+use Rattle.usb_line.specs.Line.{Progress, adds, call_record, all_flagged, shut_marks, shutting, ClaimsEach, none, one, shut_down}
 use Rattle.usb_trace.proofs.Entries.{AllFollow}
+use Rattle.usb_trace.proofs.Claims.{AreNoClaim-append}
 use Rattle.usb_line.proofs.MayFollow.{mark_follows, flag_follows}
 use Rattle.usb_trace.proofs.Stills.{flags_still, flags_pass, marks_still, marks_pass}
 use Rattle.usb_line.proofs.Each.{marks_by, each_follow}
@@ -36,6 +41,8 @@ use Rattle.usb_line.proofs.Serving.{stills_bare, Serves}
 use Rattle.usb_line.proofs.Waits.{wait_serves, wait_turned, wait_quiet}
 use Rattle.usb_line.proofs.Passes.{not_server, is_pass}
 use Rattle.usb_line.proofs.Makings.{IsMadeBy, made_none, made_entries, made_on, made_turned, claim_follow}
+use Rattle.usb_line.proofs.Longer.{IsLonger, longer_on, longer_by, makes_longer}
+use Rattle.usb_line.proofs.Claiming.{numbers-push, claims_length, claims_claim, claims_grown, flags_no_claim, marks_no_claim}
 use Rattle.usb_line.proofs.Nows.{CanCall, IsCalled, state_down}
 
 pub length-below : (n : ℕ) → length (below n) ≡ n
@@ -55,12 +62,6 @@ all_below (suc n) v l = let a = times-append v (below n) (n ∷ []) in dite (ℕ
     (λ off. let r = all_below n v (omega arith) in omega arith)
 
 module _ (s : Scene) (p : ℕ) (off : p ≢ SERVER) (there : p < 2 + (length s.threads + 3)) (f : Progress) where
-  -- as many claims as URBs
-  claims_length : (us : List ℕ) (rests : List (Option ℕ)) (m : Progress) → ClaimsEach s p f us rests m → length rests ≡ length us
-  claims_length _ _ _ none = refl
-  claims_length _ _ _ (one us rests u m k before waits) =
-      let a = claims_length us rests m before in let b = length-append us (u ∷ []) in let c = length-append rests ((state_of k.history u).rest ∷ []) in omega arith
-
   claims-push : (us : List ℕ) (rests : List (Option ℕ)) (u : ℕ) (rest : Option ℕ) → length rests ≡ length us → claims_of p (us ++ u ∷ []) (rests ++ rest ∷ []) ≡ claims_of p us rests ++ claim_entries p u rest
   claims-push [] [] u rest e = refl
   claims-push [] (r ∷ rests) u rest e = absurd (omega arith)
@@ -68,18 +69,19 @@ module _ (s : Scene) (p : ℕ) (off : p ≢ SERVER) (there : p < 2 + (length s.t
   claims-push (v ∷ us) (r ∷ rests) u rest e = ap (λ l. claim_entries p v r ++ l) (claims-push us rests u rest (omega arith))
 
   -- each of these URBs is waited for and claimed under the hub's flag
-  claims_made : IsWellFormed s → (us : List ℕ) (rests : List (Option ℕ)) (m : Progress) → ClaimsEach s p f us rests m → ((v : ℕ) → 0 < times v us → down_at v (part_of f.history p) ≡ true) → Serves s f
-      → IsMadeBy s f p (claims_of p us rests) m
+  claims_made : IsWellFormed s → (us : List ℕ) (rests : List (Option Transfer)) (m : Progress) → ClaimsEach s p f us rests m → ((v : ℕ) → 0 < times v us → down_at v (part_of f.history p) ≡ true) → Serves s f
+      → IsMadeBy s f p (claims_of p us (numbers_of rests)) m
   claims_made good _ _ _ none flagged old = made_none s f p old
   claims_made good _ _ _ (one us rests u m k before waits) flagged old =
       let made = claims_made good us rests m before (λ v l. flagged v (let a = times-append v us (u ∷ []) in omega arith)) old in
       let here : 0 < times u (us ++ u ∷ []) = let a = times-append u us (u ∷ []) in let b : cond {A = ℕ} (eqb u u) 1 0 ≡ 1 = ap (λ b. cond {A = ℕ} b 1 0) (eq-eqb u u refl) in omega arith in
-      let waited = made_turned s f m k p (claims_of p us rests) off made (wait_serves s good u m k waits made.serves) (wait_turned s u m k waits) in
+      let waited = made_turned s f m k p (claims_of p us (numbers_of rests)) off made (wait_serves s good u m k waits made.serves) (wait_turned s u m k waits) in
       let quiet = wait_quiet s u m k waits in
       let down : down_at u (part_of k.history p) ≡ true
-      = ap (down_at u) waited.own ∙ (ap (λ f. f.down) (no_flag u (part_of f.history p) (claims_of p us rests) (claims_no_flag p us rests)) ∙ flagged u here) in
-      subst (λ xs. IsMadeBy s f p xs (adds k (claim_entries p u (state_of k.history u).rest))) (sym (claims-push us rests u (state_of k.history u).rest (claims_length us rests m before)))
-      (made_on s f k (adds k (claim_entries p u (state_of k.history u).rest)) p (claims_of p us rests) (claim_entries p u (state_of k.history u).rest) waited
+      = ap (down_at u) waited.own ∙ (ap (λ f. f.down) (no_flag u (part_of f.history p) (claims_of p us (numbers_of rests)) (claims_no_flag p us (numbers_of rests))) ∙ flagged u here) in
+      subst (λ xs. IsMadeBy s f p xs (adds k (claim_entries p u (state_of k.history u).rest))) (sym (ap (claims_of p (us ++ u ∷ [])) (numbers-push (machine_of s) rests k.history u waited.serves.legal)
+      ∙ claims-push us (numbers_of rests) u (state_of k.history u).rest (length-map rests number_of ∙ claims_length s p off f us rests m before)))
+      (made_on s f k (adds k (claim_entries p u (state_of k.history u).rest)) p (claims_of p us (numbers_of rests)) (claim_entries p u (state_of k.history u).rest) waited
       (made_entries s k p (claim_entries p u (state_of k.history u).rest) off (refl, (refl, tt))
       (claim_follow s p u there k.history quiet.0 quiet.1 (holds_down (held_of (part_of k.history p) u) down)) (tt, (tt, tt)) waited.serves))
 
@@ -120,26 +122,34 @@ module _ (s : Scene) (good : IsWellFormed s) (f : Progress) (i : ℕ) (c : Call)
       (made_entries s (all_flagged s p f) p marks (not_server s i) (marks_pass p Shutdown (urbs_of s) (shut_marks s p f)) marks_follow
       (stills_bare s marks (marks_still p Shutdown (urbs_of s) (shut_marks s p f))) flagged.serves)
 
+  shut_longer : IsLonger f (shutting s p f)
+  shut_longer = longer_on f (all_flagged s p f) (shutting s p f) (longer_by f flags) (longer_by (all_flagged s p f) marks)
+
   all_down : (v : ℕ) → 0 < times v (urbs_of s) → down_at v (part_of (shutting s p f).history p) ≡ true
   all_down v l = ap (down_at v) (shut.own ∙ sym (append_assoc (part_of f.history p) flags marks))
       ∙ (ap (λ f. f.down) (no_flag v (part_of f.history p ++ flags) marks (marks_no_flag p Shutdown (urbs_of s) (shut_marks s p f)))
       ∙ all_flags v (part_of f.history p) p (urb_count s) (in_below (urb_count s) v l))
 
-  module _ (rests : List (Option ℕ)) (m : Progress) (claims : ClaimsEach s p (shutting s p f) (urbs_of s) rests m) where
+  module _ (rests : List (Option Transfer)) (m : Progress) (claims : ClaimsEach s p (shutting s p f) (urbs_of s) rests m) where
     abbrev made : CallRecord
     made = call_record f i c told.Done (shut_marks s p f) rests
 
     -- the host is taken down
     pub down_called : IsCalled s f i made m
     down_called = record {
-      made = subst (λ dd. IsMadeBy s f p (host_call_entries s p c dd told.Done (shut_marks s p f) rests f.down) m) (sym is)
-          (made_on s f (shutting s p f) m p (flags ++ marks) (claims_of p (urbs_of s) rests) shut
+      made = subst (λ dd. IsMadeBy s f p (host_call_entries s p c dd told.Done (shut_marks s p f) (numbers_of rests) f.down) m) (sym is)
+          (made_on s f (shutting s p f) m p (flags ++ marks) (claims_of p (urbs_of s) (numbers_of rests)) shut
           (claims_made s p (not_server s i) (is_pass s i can.near) (shutting s p f) good (urbs_of s) rests m claims all_down shut.serves));
       answered = subst (λ dd. IsAnswered s made dd told.Done) (sym is) (
         subst (λ b. IsDownAnswer b told.Done) (sym up) refl,
         λ _. (
           length-map (urbs_of s) answer ∙ length-below (urb_count s),
-          claims_length s p (not_server s i) (is_pass s i can.near) (shutting s p f) (urbs_of s) rests m claims ∙ length-below (urb_count s),
+          claims_length s p (not_server s i) (shutting s p f) (urbs_of s) rests m claims ∙ length-below (urb_count s),
         ),
       );
+      longer = makes_longer s f i c made m (shut_down rests m is up claims);
+      each = subst (λ dd. length rests ≡ length (claimed_urbs s dd told.Done)) (sym is) (claims_length s p (not_server s i) (shutting s p f) (urbs_of s) rests m claims);
+      claims = subst (λ dd. claimed_by p m.history ≡ claimed_by p f.history ++ zip (claimed_urbs s dd told.Done) rests) (sym is)
+          (claims_claim s p (not_server s i) (shutting s p f) (urbs_of s) rests m claims
+          ∙ ap (λ l. l ++ zip (urbs_of s) rests) (claims_grown f (shutting s p f) p shut_longer (flags ++ marks) shut.own (AreNoClaim-append flags marks (flags_no_claim p flag.Down (urbs_of s)) (marks_no_claim p Shutdown (urbs_of s) (shut_marks s p f)))));
     }

@@ -17,6 +17,7 @@ use Rattle.usb_trace.specs.declared.rows.CallAnswer.{CallAnswer}
 use Rattle.usb_trace.specs.declared.rows.CallAnswer.TheVariants as told
 use Rattle.usb_trace.specs.Plan.{fresh, submit_fault}
 use Rattle.usb_trace.specs.Run.{urbs_of, CallRecord, submit_of, killed_by, host_call_entries, IsAnswered, down_after}
+use Rattle.usb_trace.specs.Claims.{numbers_of}
 use Rattle.usb_trace.proofs.Entries.{AreOf, AreOf-append}
 use Rattle.usb_trace.proofs.Stills.{flags_pass, unflags_pass, marks_pass}
 use Rattle.usb_line.proofs.Submits.{submit_pass}
@@ -69,18 +70,18 @@ module _ (m : List Entry) (v : ℕ) where
 
 module _ (s : Scene) (p : ℕ) (d : CallRecord) (m : List Entry) (v : ℕ) where
   abbrev entries : HostCall → CallAnswer → List Entry
-  entries dd a = host_call_entries s p d.call dd a d.marks d.rests d.down
+  entries dd a = host_call_entries s p d.call dd a d.marks (numbers_of d.rests) d.down
 
   -- a call's entries raise and withdraw rejects as its host_call says
   pub rejects_effect : (dd : HostCall) (a : CallAnswer) → IsAnswered s d dd a → (withdraws v dd ≡ 1 → 0 < rejects_at v m) → rejects_at v (m ++ entries dd a) + withdraws v dd ≡ rejects_at v m + raises v dd
   rejects_effect (host_call.Submit u) (told.Code c) is backed = none_effect m v _ (submit_no_reject p u (fresh s u d.call) (submit_fault s u d.call) c)
   rejects_effect (host_call.Unlink u) (told.Code c) is backed = none_effect m v _ (tt, tt)
-  rejects_effect (host_call.Kill u) (told.Buffer n) is backed = go d.marks is
+  rejects_effect (host_call.Kill u) (told.Buffer n) is backed = go d.marks is.0
     where
       go : (marks : List Code) → length marks ≡ 1 → rejects_at v (m ++ killed_by (λ a. kill_entries p u a n) marks) + 0 ≡ rejects_at v m + 0
       go [] l = absurd (omega arith)
       go (a ∷ more) l = let e = kill_effect m v p u a n in omega arith
-  rejects_effect (host_call.Poison u) (told.Buffer n) is backed = go d.marks is
+  rejects_effect (host_call.Poison u) (told.Buffer n) is backed = go d.marks is.0
     where
       go : (marks : List Code) → length marks ≡ 1 → rejects_at v (m ++ killed_by (λ a. poison_entries p u a n) marks) + 0 ≡ rejects_at v m + cond (eqb u v) 1 0
       go [] l = absurd (omega arith)
@@ -91,15 +92,15 @@ module _ (s : Scene) (p : ℕ) (d : CallRecord) (m : List Entry) (v : ℕ) where
   rejects_effect host_call.Serve a is backed = none_effect m v [] tt
   rejects_effect host_call.Absent a is backed = none_effect m v [] tt
   rejects_effect host_call.Down told.Done is backed = none_effect m v _
-      (AreNoReject-append (map (λ u. plain_entry p (Flag record { 0 = u } flag.Down)) (urbs_of s) ++ marks_of p Shutdown (urbs_of s) d.marks) (claims_of p (urbs_of s) d.rests)
+      (AreNoReject-append (map (λ u. plain_entry p (Flag record { 0 = u } flag.Down)) (urbs_of s) ++ marks_of p Shutdown (urbs_of s) d.marks) (claims_of p (urbs_of s) (numbers_of d.rests))
       (AreNoReject-append (map (λ u. plain_entry p (Flag record { 0 = u } flag.Down)) (urbs_of s)) (marks_of p Shutdown (urbs_of s) d.marks) (flags_no_reject p (urbs_of s)) (marks_no_reject p Shutdown (urbs_of s) d.marks))
-      (claims_no_reject p (urbs_of s) d.rests))
+      (claims_no_reject p (urbs_of s) (numbers_of d.rests)))
   rejects_effect host_call.Down (told.Code c) is backed = none_effect m v [] tt
   rejects_effect host_call.Down told.Nothing is backed = none_effect m v [] tt
   rejects_effect host_call.Down (told.Buffer n) is backed = none_effect m v [] tt
   rejects_effect host_call.Up told.Done is backed = go d.down
     where
-      go : (b : Bool) → rejects_at v (m ++ host_call_entries s p d.call host_call.Up told.Done d.marks d.rests b) + 0 ≡ rejects_at v m + 0
+      go : (b : Bool) → rejects_at v (m ++ host_call_entries s p d.call host_call.Up told.Done d.marks (numbers_of d.rests) b) + 0 ≡ rejects_at v m + 0
       go true = none_effect m v _ (unflags_no_reject p (urbs_of s))
       go false = none_effect m v [] tt
   rejects_effect (host_call.Unpoison u) told.Nothing is backed = cc
@@ -139,15 +140,15 @@ module _ (s : Scene) (p : ℕ) (d : CallRecord) (m : List Entry) (v : ℕ) where
   down_effect near host_call.Serve a is e = same_down [] tt e
   down_effect near host_call.Absent a is e = same_down [] tt e
   down_effect near host_call.Down told.Done is e =
-      let flags = map (λ u. plain_entry p (Flag record { 0 = u } flag.Down)) (urbs_of s) in let marks = marks_of p Shutdown (urbs_of s) d.marks in let claims = claims_of p (urbs_of s) d.rests in
-      ap (down_at v) (sym (append_assoc m (flags ++ marks) claims)) ∙ (ap (λ f. f.down) (no_flag v (m ++ (flags ++ marks)) claims (claims_no_flag p (urbs_of s) d.rests))
+      let flags = map (λ u. plain_entry p (Flag record { 0 = u } flag.Down)) (urbs_of s) in let marks = marks_of p Shutdown (urbs_of s) d.marks in let claims = claims_of p (urbs_of s) (numbers_of d.rests) in
+      ap (down_at v) (sym (append_assoc m (flags ++ marks) claims)) ∙ (ap (λ f. f.down) (no_flag v (m ++ (flags ++ marks)) claims (claims_no_flag p (urbs_of s) (numbers_of d.rests)))
       ∙ (ap (down_at v) (sym (append_assoc m flags marks)) ∙ (ap (λ f. f.down) (no_flag v (m ++ flags) marks (marks_no_flag p Shutdown (urbs_of s) d.marks)) ∙ all_flags v m p (urb_count s) near)))
   down_effect near host_call.Down (told.Code c) is e = same_down [] tt e
   down_effect near host_call.Down told.Nothing is e = same_down [] tt e
   down_effect near host_call.Down (told.Buffer n) is e = same_down [] tt e
   down_effect near host_call.Up told.Done is e = go d.down e
     where
-      go : (b : Bool) → down_at v m ≡ b → down_at v (m ++ host_call_entries s p d.call host_call.Up told.Done d.marks d.rests b) ≡ false
+      go : (b : Bool) → down_at v m ≡ b → down_at v (m ++ host_call_entries s p d.call host_call.Up told.Done d.marks (numbers_of d.rests) b) ≡ false
       go true e = all_unflags v m p (urb_count s) near
       go false e = ap (down_at v) (append-nil m) ∙ e
   down_effect near (host_call.Unpoison u) told.Nothing is e = cc
@@ -165,7 +166,7 @@ module _ (s : Scene) (p : ℕ) (d : CallRecord) (m : List Entry) (v : ℕ) where
   down_effect near _ _ is e = absurd is
 
 -- the entries of a call are its pass's own
-pub entries_pass : (s : Scene) (p : ℕ) (d : CallRecord) (dd : HostCall) (a : CallAnswer) → IsAnswered s d dd a → AreOf p (host_call_entries s p d.call dd a d.marks d.rests d.down)
+pub entries_pass : (s : Scene) (p : ℕ) (d : CallRecord) (dd : HostCall) (a : CallAnswer) → IsAnswered s d dd a → AreOf p (host_call_entries s p d.call dd a d.marks (numbers_of d.rests) d.down)
 entries_pass s p d (host_call.Submit u) (told.Code c) is = submit_of_pass p u (fresh s u d.call) (submit_fault s u d.call) c
 entries_pass s p d (host_call.Unlink u) (told.Code c) is = (refl, tt)
 entries_pass s p d (host_call.Kill u) (told.Buffer n) is = go d.marks
@@ -184,15 +185,15 @@ entries_pass s p d (host_call.Unblock u) told.Done is = (refl, tt)
 entries_pass s p d host_call.Serve a is = tt
 entries_pass s p d host_call.Absent a is = tt
 entries_pass s p d host_call.Down told.Done is =
-    AreOf-append p (map (λ u. plain_entry p (Flag record { 0 = u } flag.Down)) (urbs_of s) ++ marks_of p Shutdown (urbs_of s) d.marks) (claims_of p (urbs_of s) d.rests)
+    AreOf-append p (map (λ u. plain_entry p (Flag record { 0 = u } flag.Down)) (urbs_of s) ++ marks_of p Shutdown (urbs_of s) d.marks) (claims_of p (urbs_of s) (numbers_of d.rests))
     (AreOf-append p (map (λ u. plain_entry p (Flag record { 0 = u } flag.Down)) (urbs_of s)) (marks_of p Shutdown (urbs_of s) d.marks) (flags_pass p flag.Down (urbs_of s)) (marks_pass p Shutdown (urbs_of s) d.marks))
-    (claims_pass p (urbs_of s) d.rests)
+    (claims_pass p (urbs_of s) (numbers_of d.rests))
 entries_pass s p d host_call.Down (told.Code c) is = tt
 entries_pass s p d host_call.Down told.Nothing is = tt
 entries_pass s p d host_call.Down (told.Buffer n) is = tt
 entries_pass s p d host_call.Up told.Done is = go d.down
   where
-    go : (b : Bool) → AreOf p (host_call_entries s p d.call host_call.Up told.Done d.marks d.rests b)
+    go : (b : Bool) → AreOf p (host_call_entries s p d.call host_call.Up told.Done d.marks (numbers_of d.rests) b)
     go true = unflags_pass p flag.Down (urbs_of s)
     go false = tt
 entries_pass s p d (host_call.Unpoison u) told.Nothing is = tt

@@ -43,6 +43,7 @@ pub mod Nows
 pub mod Downs
 pub mod Calls
 pub mod Longer
+pub mod Claiming
 pub mod Before
 pub mod Closing
 pub mod OnInterface

@@ -1,7 +1,7 @@
 -- The run in line order is a run of its scene.
 use Rattle.std.proofs.Common.{ℕ, zero, suc, ◌≡◌, ◌+◌, ◌<◌, ◌≤◌, Bool, true, false, eqb, Some, List, [], ◌∷◌, ◌++◌, length, map, refl, sym, ap, ◌∙◌, subst, arith, append_assoc, append-nil, length-append, true≢false}
 use Rattle.std.specs.Prelude.{slice_get}
-use Rattle.std.specs.List.{flat_map, All}
+use Rattle.std.specs.List.{flat_map, zip, All}
 use Rattle.std.proofs.lemmas.List.{append_cancel_left}
 use Rattle.std.proofs.lemmas.List.Elements.{filter-append}
 use mathlib.Core.Logic.{dite}
@@ -18,7 +18,7 @@ use Rattle.usb_scene.specs.declared.scene.Scene.{Scene}
 use Rattle.usb_scene.specs.WellFormed.{IsWellFormed}
 use Rattle.usb_prepare.specs.Layout.{urb_count}
 use Rattle.usb_trace.specs.Plan.{machine_of, pass_of, main_pass}
-use Rattle.usb_trace.specs.Run.{urbs_of, Giveback, done_by, call_entries, seen_quiet, kills_of, firsts_of, IsMade, AreFound, opening, IsOver, IsFramed, IsRun}
+use Rattle.usb_trace.specs.Run.{urbs_of, Giveback, done_by, call_entries, claims_in, seen_quiet, kills_of, firsts_of, IsMade, AreFound, opening, IsOver, IsFramed, IsRun}
 use Rattle.usb_line.specs.Line.{Progress, AreDowns, begun, adds, IsLineRun}
 use Rattle.usb_line.proofs.Parts.{of_controller, of_handlers}
 use Rattle.usb_line.proofs.MayFollow.{once}
@@ -28,10 +28,13 @@ use Rattle.usb_line.proofs.Scripted.{placed as call_of, calls_made}
 use Rattle.usb_line.proofs.Makings.{IsMadeBy}
 use Rattle.usb_line.proofs.Downs.{length-below, all_below}
 use Rattle.usb_line.proofs.Calls.{Goes, line_goes}
-use Rattle.usb_trace.proofs.Entries.{part_own, part_other}
+use Rattle.usb_trace.specs.Claims.{claimed_by, numbers_of}
+use Rattle.usb_trace.proofs.Entries.{part_own, part_other, grows}
+use Rattle.usb_trace.proofs.Claims.{AreNoClaim, claimed_none, claimed_same}
 use Rattle.usb_line.proofs.ReadsFollow.{reads_pass}
 use Rattle.usb_line.proofs.Longer.{IsLonger, line_longer, closes_longer}
-use Rattle.usb_line.proofs.Closing.{AreKilled, closes_kill, closed, still_queued, seen_still}
+use Rattle.usb_line.proofs.Claiming.{claims_stay, opening_no_claim, seen_no_claim}
+use Rattle.usb_line.proofs.Closing.{AreKilled, closes_kill, closed, still_queued, seen_still, seen_pass}
 
 pub in_pending_once : (g : Machine) (h : List Entry) (e v : ℕ) → Placed g h v → times v (pending_of g h e) ≤ bit (state_of h v).queued
 in_pending_once g h e v at = let o = at.once in dite (ℕ_discrete e (home_of g v))
@@ -73,7 +76,7 @@ module _ (s : Scene) (good : IsWellFormed s) (f : Progress) (run : IsLineRun s f
   kills : AreKilled s called urbs run.killed
   kills = closes_kill s good called (urb_count s) urbs run.killed refl run.closes goes.serves
 
-  made : IsMadeBy s called (main_pass s) (kills_of (main_pass s) urbs kills.marks kills.rests ++ flat_map (seen_quiet (main_pass s)) urbs) last
+  made : IsMadeBy s called (main_pass s) (kills_of (main_pass s) urbs kills.marks (numbers_of kills.rests) ++ flat_map (seen_quiet (main_pass s)) urbs) last
   made = closed s called urbs run.killed kills
 
   abbrev h : List Entry
@@ -113,12 +116,19 @@ module _ (s : Scene) (good : IsWellFormed s) (f : Progress) (run : IsLineRun s f
   between = line_longer s called run.in_line
 
   abbrev entries : List Entry
-  entries = kills_of (main_pass s) urbs kills.marks kills.rests ++ flat_map (seen_quiet (main_pass s)) urbs
+  entries = kills_of (main_pass s) urbs kills.marks (numbers_of kills.rests) ++ flat_map (seen_quiet (main_pass s)) urbs
 
   -- what main's part gains after the calls is the close
   main_last : part_of longer.0 (main_pass s) ≡ entries
   main_last = append_cancel_left (part_of called.history (main_pass s)) (part_of longer.0 (main_pass s)) entries
       (sym (filter-append (λ x. eqb x.pass (main_pass s)) called.history longer.0) ∙ (ap (λ k. part_of k (main_pass s)) (sym longer.1) ∙ made.own))
+
+  -- main claimed nothing before the close, and in it what rested with each URB
+  claimed_last : claimed_by (main_pass s) h ≡ zip urbs kills.rests
+  claimed_last =
+      let seen : List Entry = flat_map (seen_quiet (main_pass s)) urbs in
+      claimed_same (main_pass s) run.killed.history h seen seen refl (grows (main_pass s) run.killed.history seen (seen_pass (main_pass s) urbs)) (seen_no_claim (main_pass s) urbs)
+      ∙ (kills.claims ∙ ap (λ l. l ++ zip urbs kills.rests) (claimed_none (main_pass s) [] called.history (subst AreNoClaim (sym goes.main) (opening_no_claim s))))
 
   is_framed : IsFramed s h
   is_framed = record {
@@ -134,6 +144,7 @@ module _ (s : Scene) (good : IsWellFormed s) (f : Progress) (run : IsLineRun s f
         (ap (λ k. part_of k (main_pass s)) (sym between.1) ∙ (goes.main ∙ sym (part_own (main_pass s) (opening s) (reads_pass s (urb_count s)))))
         (filter-append (λ x. eqb x.pass (main_pass s)) (opening s) between.0);
     closes = main_last;
+    claims = claimed_last;
     silent = λ i l. (
       part_other (main_pass s) (pass_of s i) (opening s) (λ e. not_main s i l (sym e)) (reads_pass s (urb_count s)),
       no_part called.history longer.0 (pass_of s i)
@@ -150,6 +161,8 @@ module _ (s : Scene) (good : IsWellFormed s) (f : Progress) (run : IsLineRun s f
     downs = λ i l. subst (λ ds. AreFound s false (done_by i ds)) (sym made.call_records) (goes.downs i l);
     calls = λ i thread at. calls_made s last.call_records (ap (map call_of) made.call_records ∙ run.all) i thread at;
     threads = λ i l. made.elsewhere (pass_of s i) (not_server s i) (not_main s i l) ∙ (goes.threads i l ∙ ap (λ ds. flat_map (call_entries s) (done_by i ds)) (sym made.call_records));
+    claims = λ i l. claims_stay called last (pass_of s i) longer (made.elsewhere (pass_of s i) (not_server s i) (not_main s i l))
+        ∙ (goes.claims i l ∙ ap (λ ds. flat_map (claims_in s) (done_by i ds)) (sym made.call_records));
     framed = is_framed;
     server = of_controller s (part_of h SERVER) last.rounds serves.server;
     handlers = of_handlers s (part_of h SERVER) last.rounds serves.server;

@@ -5,6 +5,7 @@ use Rattle.usb_types.specs.declared.urb.Why.TheVariants.{Shutdown}
 use Rattle.usb_types.specs.declared.urb.Flag.TheVariants as flag
 use Rattle.usb_types.specs.Codes.{errno_of}
 use Rattle.usb_machine.specs.declared.event.Event.TheVariants.{Flag}
+use Rattle.usb_machine.specs.declared.transfer.Transfer.{Transfer}
 use Rattle.usb_machine.specs.declared.entry.Entry.{Entry}
 use Rattle.usb_machine.specs.History.{state_of}
 use Rattle.usb_machine.specs.Calls.{plain_entry, marks_of, claim_entries, unblock_entries}
@@ -26,7 +27,7 @@ longer_none f = ([], sym (append-nil f.history))
 pub longer_on : (f m k : Progress) → IsLonger f m → IsLonger m k → IsLonger f k
 longer_on f m k a b = (a.0 ++ b.0, b.1 ∙ (ap (λ l. l ++ b.0) a.1 ∙ append_assoc f.history a.0 b.0))
 
-longer_by : (f : Progress) (ys : List Entry) → IsLonger f (adds f ys)
+pub longer_by : (f : Progress) (ys : List Entry) → IsLonger f (adds f ys)
 longer_by f ys = (ys, refl)
 
 module _ (s : Scene) where
@@ -42,7 +43,7 @@ module _ (s : Scene) where
   loud_longer u f _ (begins loud) = longer_none f
   loud_longer u f _ (goes_on m k before turn loud) = longer_on f m k (loud_longer u f m before) (gives_longer m k turn)
 
-  wait_longer : (u : ℕ) (f k : Progress) → WaitsFor s u f k → IsLonger f k
+  pub wait_longer : (u : ℕ) (f k : Progress) → WaitsFor s u f k → IsLonger f k
   wait_longer u f _ (already quiet) = longer_none f
   wait_longer u f _ (turns m k before turn quiet) = let a = loud_longer u (woken f) m before in longer_on f m k (a.0, a.1) (gives_longer m k turn)
 
@@ -54,16 +55,19 @@ module _ (s : Scene) where
   idle_longer f e idle = (takes_below s f.history (ends_of s), (passed s (with_takes s f) e (ends_of s) idle.passed).history)
 
   -- a kill begins, waits, and then adds what is seen
-  kill_longer : (p u : ℕ) (f k : Progress) (ys : List Entry) → WaitsFor s u (killing p u f) k → IsLonger f (adds k ys)
-  kill_longer p u f k ys waits = longer_on f (killing p u f) (adds k ys) (longer_by f _) (longer_on (killing p u f) k (adds k ys) (wait_longer u (killing p u f) k waits) (longer_by k ys))
+  pub waited_longer : (p u : ℕ) (f k : Progress) → WaitsFor s u (killing p u f) k → IsLonger f k
+  waited_longer p u f k waits = longer_on f (killing p u f) k (longer_by f _) (wait_longer u (killing p u f) k waits)
 
-  claims_longer : (p : ℕ) (f : Progress) (us : List ℕ) (rests : List (Option ℕ)) (m : Progress) → ClaimsEach s p f us rests m → IsLonger f m
+  kill_longer : (p u : ℕ) (f k : Progress) (ys : List Entry) → WaitsFor s u (killing p u f) k → IsLonger f (adds k ys)
+  kill_longer p u f k ys waits = longer_on f k (adds k ys) (waited_longer p u f k waits) (longer_by k ys)
+
+  claims_longer : (p : ℕ) (f : Progress) (us : List ℕ) (rests : List (Option Transfer)) (m : Progress) → ClaimsEach s p f us rests m → IsLonger f m
   claims_longer p f _ _ _ none = longer_none f
   claims_longer p f _ _ _ (one us rests u m k before waits) =
       let xs : List Entry = claim_entries p u (state_of k.history u).rest in
       longer_on f m (adds k xs) (claims_longer p f us rests m before) (longer_on m k (adds k xs) (wait_longer u m k waits) (longer_by k xs))
 
-  makes_longer : (f : Progress) (i : ℕ) (c : Call) (d : CallRecord) (m : Progress) → Makes s f i c d m → IsLonger f m
+  pub makes_longer : (f : Progress) (i : ℕ) (c : Call) (d : CallRecord) (m : Progress) → Makes s f i c d m → IsLonger f m
   makes_longer f i c _ _ (at_once answer e) = longer_by f (call_entries s (call_record f i c answer [] []))
   makes_longer f i c _ e (served m _ is gave idle) = let a = gives_back_longer (woken f) m gave in longer_on f m e (a.0, a.1) (idle_longer m e idle)
   makes_longer f i c _ _ (killed u m is waits) = kill_longer (pass_of s i) u f m (claim_entries (pass_of s i) u (state_of m.history u).rest ++ unblock_entries (pass_of s i) u) waits

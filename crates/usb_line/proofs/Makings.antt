@@ -93,7 +93,7 @@ module _ (s : Scene) (p u : ℕ) (there : p < 2 + (length s.threads + 3)) where
     pub begun : IsMadeBy s f p begins (killing p u f)
     begun = made_entries s f p begins off (refl, (refl, tt)) (begin_follow f.history) (tt, (tt, tt)) old
 
-    waited : IsMadeBy s f p begins m
+    pub waited : IsMadeBy s f p begins m
     waited = made_turned s f (killing p u f) m p begins off begun (wait_serves s good u (killing p u f) m waits begun.serves) (wait_turned s u (killing p u f) m waits)
 
     -- the pass holds the reject until it is withdrawn

@@ -1,5 +1,6 @@
 -- Calls that answer at once.
-use Rattle.std.proofs.Common.{ℕ, ◌≡◌, ◌+◌, ◌<◌, Bool, true, false, cond, eqb, Option, Some, None, List, [], length, map, refl, sym, ap, ◌∙◌, subst, eq-eqb}
+use Rattle.std.proofs.Common.{ℕ, ◌≡◌, ◌+◌, ◌<◌, Bool, true, false, cond, eqb, Option, Some, None, List, [], ◌++◌, length, map, refl, sym, ap, ◌∙◌, subst, append-nil, eq-eqb}
+use Rattle.std.specs.List.{zip}
 use Rattle.usb_types.specs.declared.errno.Errno.{Errno}
 use Rattle.usb_types.specs.declared.errno.Errno.TheVariants.{ESHUTDOWN}
 use Rattle.usb_types.specs.declared.errno.Code.{Code}
@@ -26,9 +27,11 @@ use Rattle.usb_trace.specs.declared.rows.HostCall.TheVariants as host_call
 use Rattle.usb_trace.specs.declared.rows.CallAnswer.{CallAnswer}
 use Rattle.usb_trace.specs.declared.rows.CallAnswer.TheVariants as told
 use Rattle.usb_trace.specs.Plan.{machine_of, fresh, submit_fault, pass_of, host_call_of}
-use Rattle.usb_trace.specs.Run.{urbs_of, CallRecord, submit_of, host_call_entries, call_entries, IsShapeAnswer, IsDownAnswer, IsAnswered}
+use Rattle.usb_trace.specs.Run.{urbs_of, CallRecord, submit_of, host_call_entries, call_entries, claimed_urbs, claims_in, IsShapeAnswer, IsDownAnswer, IsAnswered}
+use Rattle.usb_trace.specs.Claims.{claimed_by}
 use Rattle.usb_line.specs.Line.{Progress, adds, call_record, submit_answer, answer_now}
-use Rattle.usb_trace.proofs.Entries.{AllFollow}
+use Rattle.usb_trace.proofs.Entries.{AllFollow, grows}
+use Rattle.usb_trace.proofs.Claims.{claimed_same}
 use Rattle.usb_line.proofs.MayFollow.{mark_follows, reject_follows, withdraw_follows, unflag_follows}
 use Rattle.usb_line.specs.Shows.{IsApt}
 use Rattle.usb_line.proofs.Homes.{has_home, home_takes, fresh_window}
@@ -42,6 +45,8 @@ use Rattle.usb_line.proofs.Effects.{entries_pass}
 use Rattle.usb_line.proofs.Serving.{AreBare, stills_bare, submit_bare, Serves}
 use Rattle.usb_line.proofs.Passes.{not_server, is_pass}
 use Rattle.usb_line.proofs.Makings.{IsMadeBy, made_entries}
+use Rattle.usb_line.proofs.Longer.{IsLonger, longer_by}
+use Rattle.usb_line.proofs.Claiming.{now_no_claim}
 
 -- what a call needs of the run before it
 pub record CanCall (s : Scene) (f : Progress) (i : ℕ) (c : Call) : Type 0 where
@@ -52,10 +57,13 @@ pub record CanCall (s : Scene) (f : Progress) (i : ℕ) (c : Call) : Type 0 wher
   pub hub : is_hubs (host_call_of s c) ≡ true → pass_of s i ≡ HUB
   pub flags : (v : ℕ) → v < urb_count s → down_at v (part_of f.history HUB) ≡ f.down
 
--- what a call did: the entries of its pass, and an answer of its kind
+-- what a call did: the entries of its pass, an answer of its kind, and what it claimed
 pub record IsCalled (s : Scene) (f : Progress) (i : ℕ) (d : CallRecord) (m : Progress) : Type 0 where
   pub made : IsMadeBy s f (pass_of s i) (call_entries s d) m
   pub answered : IsAnswered s d (host_call_of s d.call) d.answer
+  pub longer : IsLonger f m
+  pub each : length d.rests ≡ length (claimed_urbs s (host_call_of s d.call) d.answer)
+  pub claims : claimed_by (pass_of s i) m.history ≡ claimed_by (pass_of s i) f.history ++ claims_in s d
 
 -- the URB's flag is the hub's
 pub state_down : (s : Scene) (h : List Entry) (u : ℕ) (b : Bool) → IsLegal (machine_of s) h → down_at u (part_of h HUB) ≡ b → (state_of h u).flags.down ≡ b
@@ -169,10 +177,26 @@ module _ (s : Scene) (good : IsWellFormed s) (f : Progress) (i : ℕ) (c : Call)
   now_answered host_call.Absent a e = sym (told_of _ a e)
   now_answered host_call.Other a e = cc
 
+  now_claims : (dd : HostCall) (a : CallAnswer) → answer_now s f c dd ≡ Some a → claimed_urbs s dd a ≡ []
+  now_claims host_call.Down a e = go f.down e
+    where
+      go : (b : Bool) → cond b (Some (told.Code (Fault ESHUTDOWN))) None ≡ Some a → claimed_urbs s host_call.Down a ≡ []
+      go true e = subst (λ a. claimed_urbs s host_call.Down a ≡ []) (told_of _ a e) refl
+      go false e = cc
+  now_claims (host_call.Kill u) a e = cc
+  now_claims (host_call.Poison u) a e = cc
+  now_claims _ a e = refl
+
   -- a call that answers at once
   pub now_called : (a : CallAnswer) → answer_now s f c (host_call_of s c) ≡ Some a → IsCalled s f i (made a) (adds f (call_entries s (made a)))
   now_called a e = let answered = now_answered (host_call_of s c) a e in record {
     made = made_entries s f p (call_entries s (made a)) (not_server s i) (entries_pass s p (made a) (host_call_of s c) a answered)
         (now_follow (host_call_of s c) a e (host_call_there s good c can.is) can.backed can.hub) (now_bare (host_call_of s c) a e refl) can.serves;
     answered = answered;
+    longer = longer_by f (call_entries s (made a));
+    each = ap length (sym (now_claims (host_call_of s c) a e));
+    claims =
+        claimed_same p h (h ++ call_entries s (made a)) (call_entries s (made a)) (call_entries s (made a)) refl
+        (grows p h (call_entries s (made a)) (entries_pass s p (made a) (host_call_of s c) a answered)) (now_no_claim p s c (host_call_of s c) a f.down)
+        ∙ (sym (append-nil (claimed_by p h)) ∙ ap (λ us. claimed_by p h ++ zip us []) (sym (now_claims (host_call_of s c) a e)));
   }

@@ -12,6 +12,7 @@ use Rattle.usb_machine.specs.History.{state_of}
 use Rattle.usb_machine.specs.Parts.{part_of, held_of, holds_any}
 use Rattle.usb_machine.specs.Plain.{Stands}
 use Rattle.usb_machine.specs.Calls.{plain_entry, mark_entry, marks_of, claim_entries}
+use Rattle.usb_machine.specs.HostCalls.{rested_of}
 use Rattle.usb_scene.specs.declared.scene.Scene.{Scene}
 use Rattle.usb_scene.specs.WellFormed.{IsWellFormed}
 use Rattle.usb_prepare.specs.Layout.{urb_count}
@@ -54,9 +55,9 @@ module _ (s : Scene) (f : Progress) (n : ℕ) (run : LineRun) (at : Claimed s f 
       let kept : Option ℕ = (state_of w.far.history n).rest in
       let xs : List Entry = claim_entries HUB n kept in
       record {
-        rests = at.rests ++ kept ∷ [];
+        rests = at.rests ++ rested_of w.far.history n ∷ [];
         far = adds w.far xs;
-        claims = subst (λ k. ClaimsEach s HUB f (below k) (at.rests ++ kept ∷ []) (adds w.far xs)) (sym (add-one n)) (one (below n) at.rests n at.far w.far at.claims w.waits);
+        claims = subst (λ k. ClaimsEach s HUB f (below k) (at.rests ++ rested_of w.far.history n ∷ []) (adds w.far xs)) (sym (add-one n)) (one (below n) at.rests n at.far w.far at.claims w.waits);
         is = record {
           good = at.is.good;
           shows = shows_still s w.far xs (tt, (tt, tt)) now after w.shows (subst (λ (r : Option ℕ). Stands after (machine_of s) (w.far.history ++ claim_entries HUB n r)) told stands);

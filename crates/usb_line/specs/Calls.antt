@@ -1,6 +1,7 @@
 -- What waits and calls do to the run's object.
 use Rattle.std.specs.Prelude.{ℕ, ◌≡◌, ◌≢◌, ◌<◌, ◌++◌, true, List, ◌∷◌, length, map, Option}
 use Rattle.usb_machine.specs.declared.entry.TheConstants.{SERVER, HUB}
+use Rattle.usb_machine.specs.declared.transfer.Transfer.{Transfer}
 use Rattle.usb_machine.specs.History.{state_of}
 use Rattle.usb_machine.specs.Parts.{part_of, held_of}
 use Rattle.usb_machine.specs.Calls.{claim_entries, unblock_entries}
@@ -108,7 +109,7 @@ pub record CanClaim (run : LineRun) (n : ℕ) : Type 0 where
 
 -- the hub waited for each of the first n URBs, and claimed what rested with it
 pub record Claimed (s : Scene) (f : Progress) (n : ℕ) (run : LineRun) : Type 0 where
-  pub rests : List (Option ℕ)
+  pub rests : List (Option Transfer)
   pub far : Progress
   pub claims : ClaimsEach s HUB f (below n) rests far
   pub is : IsShut s far run

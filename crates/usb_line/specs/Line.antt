@@ -22,6 +22,7 @@ use Rattle.usb_machine.specs.Shapes.{shape_fault}
 use Rattle.usb_machine.specs.State.{refusal, unlinking}
 use Rattle.usb_machine.specs.History.{state_of, line_of, pending_of, sent_of}
 use Rattle.usb_machine.specs.Calls.{entry, plain_entry, mark_entry, claim_entries, unblock_entries, marks_of}
+use Rattle.usb_machine.specs.HostCalls.{rested_of}
 use Rattle.usb_xfer.specs.Replies.{Reply, Question}
 use Rattle.usb_xfer.specs.declared.packet.Step.{Step}
 use Rattle.usb_xfer.specs.declared.packet.Step.TheVariants.{More, Waiting, Ended}
@@ -201,10 +202,10 @@ pub data WaitsFor (s : Scene) (u : ℕ) (f : Progress) : Progress → Type 0 whe
   turns : (m k : Progress) → StaysLoud s u (woken f) m → Gives s m k → is_quiet (state_of k.history u) ≡ true → WaitsFor s u f k
 
 -- for each of these URBs in turn, a wait until it is quiet, and the claim of what rests with it
-pub data ClaimsEach (s : Scene) (p : ℕ) (f : Progress) : List ℕ → List (Option ℕ) → Progress → Type 0 where
+pub data ClaimsEach (s : Scene) (p : ℕ) (f : Progress) : List ℕ → List (Option Transfer) → Progress → Type 0 where
   none : ClaimsEach s p f [] [] f
-  one : (us : List ℕ) (rests : List (Option ℕ)) (u : ℕ) (m k : Progress) → ClaimsEach s p f us rests m → WaitsFor s u m k
-      → ClaimsEach s p f (us ++ u ∷ []) (rests ++ (state_of k.history u).rest ∷ []) (adds k (claim_entries p u (state_of k.history u).rest))
+  one : (us : List ℕ) (rests : List (Option Transfer)) (u : ℕ) (m k : Progress) → ClaimsEach s p f us rests m → WaitsFor s u m k
+      → ClaimsEach s p f (us ++ u ∷ []) (rests ++ rested_of k.history u ∷ []) (adds k (claim_entries p u (state_of k.history u).rest))
 
 -- the beginning of a kill: a reject, and the mark with the machine's answer
 abbrev pub killing : ℕ → ℕ → Progress → Progress
@@ -213,7 +214,7 @@ killing p u f = adds f (plain_entry p (Reject record { 0 = u }) ∷ mark_entry p
 abbrev pub with_call_record : Scene → Progress → CallRecord → Progress
 with_call_record s f d = record f { call_records = f.call_records ++ d ∷ []; down = down_after f.down (host_call_of s d.call) d.answer }
 
-abbrev pub call_record : Progress → ℕ → Call → CallAnswer → List Code → List (Option ℕ) → CallRecord
+abbrev pub call_record : Progress → ℕ → Call → CallAnswer → List Code → List (Option Transfer) → CallRecord
 call_record f i c answer marks rests = record { thread = i; call = c; answer = answer; marks = marks; rests = rests; down = f.down }
 
 -- the beginning of a shutdown: all URBs are flagged, and then marked with the machine's answers
@@ -247,12 +248,12 @@ pub data Makes (s : Scene) (f : Progress) (i : ℕ) (c : Call) : CallRecord → 
       → Makes s f i c (call_record f i c answer [] []) (adds f (call_entries s (call_record f i c answer [] [])))
   served : (m e : Progress) → host_call_of s c ≡ host_call.Serve → GivesBack s (woken f) m → IsIdle s m e → Makes s f i c (call_record f i c told.Nothing [] []) e
   killed : (u : ℕ) (m : Progress) → host_call_of s c ≡ host_call.Kill u → WaitsFor s u (killing (pass_of s i) u f) m
-      → Makes s f i c (call_record f i c (told.Buffer (state_of m.history u).rest) (unlinking (state_of f.history u) ∷ []) [])
+      → Makes s f i c (call_record f i c (told.Buffer (state_of m.history u).rest) (unlinking (state_of f.history u) ∷ []) (rested_of m.history u ∷ []))
       (adds m (claim_entries (pass_of s i) u (state_of m.history u).rest ++ unblock_entries (pass_of s i) u))
   poisoned : (u : ℕ) (m : Progress) → host_call_of s c ≡ host_call.Poison u → WaitsFor s u (killing (pass_of s i) u f) m
-      → Makes s f i c (call_record f i c (told.Buffer (state_of m.history u).rest) (unlinking (state_of f.history u) ∷ []) [])
+      → Makes s f i c (call_record f i c (told.Buffer (state_of m.history u).rest) (unlinking (state_of f.history u) ∷ []) (rested_of m.history u ∷ []))
       (adds m (claim_entries (pass_of s i) u (state_of m.history u).rest))
-  shut_down : (rests : List (Option ℕ)) (m : Progress) → host_call_of s c ≡ host_call.Down → f.down ≡ false
+  shut_down : (rests : List (Option Transfer)) (m : Progress) → host_call_of s c ≡ host_call.Down → f.down ≡ false
       → ClaimsEach s (pass_of s i) (shutting s (pass_of s i) f) (urbs_of s) rests m
       → Makes s f i c (call_record f i c told.Done (shut_marks s (pass_of s i) f) rests) m
 

@@ -27,6 +27,7 @@ use Rattle.usb_trace.specs.declared.rows.GivebackRow.{GivebackRow}
 use Rattle.usb_trace.specs.declared.rows.HostCall.{HostCall}
 use Rattle.usb_trace.specs.declared.rows.HostCall.TheVariants as host_call
 use Rattle.usb_trace.specs.Plan.{DriverQuestion, question_at, host_call_on, host_call_alone, host_call_by, submit_fault, fresh, pass_of}
+use Rattle.usb_trace.specs.Claims.{numbers_of}
 use Rattle.usb_trace.specs.Run.{CallRecord, Giveback, IsAnswered, IsMade, host_call_entries, call_entries, submit_of, moved_in, resent, handled_by, given_entries, handler_entries, giveback_entries}
 use Rattle.usb_trace.specs.GivebackRow.{giveback_row}
 use Rattle.usb_trace.specs.Rows.{made_of}
@@ -47,13 +48,13 @@ module _ (s : Scene) (raw : are_raw s.devices ≡ true) (takes : (u : ℕ) (c : 
   sum_of xs = counted q such gives t xs
 
   -- a call that is no submit counts nothing
-  still_call : (p : ℕ) (d : CallRecord) (x : HostCall) → is_submit x ≡ false → sum_of (host_call_entries s p d.call x d.answer d.marks d.rests d.down) ≡ 0
+  still_call : (p : ℕ) (d : CallRecord) (x : HostCall) → is_submit x ≡ false → sum_of (host_call_entries s p d.call x d.answer d.marks (numbers_of d.rests) d.down) ≡ 0
   still_call p d x off =
-      still_counted q such gives t (host_call_entries s p d.call x d.answer d.marks d.rests d.down) (still_host_call s p d.call x d.answer d.marks d.rests d.down off)
+      still_counted q such gives t (host_call_entries s p d.call x d.answer d.marks (numbers_of d.rests) d.down) (still_host_call s p d.call x d.answer d.marks (numbers_of d.rests) d.down off)
 
   -- and a submit its code
   submit_call : (p u : ℕ) (d : CallRecord) (a : CallAnswer) → u < length s.urbs → IsAnswered s d (host_call.Submit u) a
-      → sum_of (host_call_entries s p d.call (host_call.Submit u) a d.marks d.rests d.down) ≡ bit (is_some_of such (code_in a))
+      → sum_of (host_call_entries s p d.call (host_call.Submit u) a d.marks (numbers_of d.rests) d.down) ≡ bit (is_some_of such (code_in a))
   submit_call p u d (told.Code a) near is =
       ap (λ (o : Option Errno). sum_of (submit_of o p u (fresh s u d.call) a)) (takes u d.call near) ∙ submit_counted q such gives t p u (fresh s u d.call) a
   submit_call p u d told.Nothing near is = absurd is
@@ -62,7 +63,7 @@ module _ (s : Scene) (raw : are_raw s.devices ≡ true) (takes : (u : ℕ) (c : 
 
   -- what an operation does on an URB counts as it is kept
   on_urb : (p : ℕ) (o : Operation) (u : ℕ) (d : CallRecord) → u < length s.urbs → IsAnswered s d (host_call_on o u) d.answer
-      → sum_of (host_call_entries s p d.call (host_call_on o u) d.answer d.marks d.rests d.down) ≡ bit (is_some_of such (submit_in o d.answer))
+      → sum_of (host_call_entries s p d.call (host_call_on o u) d.answer d.marks (numbers_of d.rests) d.down) ≡ bit (is_some_of such (submit_in o d.answer))
   on_urb p op.Submit u d near is = submit_call p u d d.answer near is
   on_urb p op.Unlink u d near is = still_call p d (host_call.Unlink u) refl
   on_urb p op.Kill u d near is = still_call p d (host_call.Kill u) refl
@@ -78,7 +79,7 @@ module _ (s : Scene) (raw : are_raw s.devices ≡ true) (takes : (u : ℕ) (c : 
 
   -- on nothing none submits
   alone : (p : ℕ) (o : Operation) (d : CallRecord) → IsAnswered s d (host_call_alone o) d.answer
-      → sum_of (host_call_entries s p d.call (host_call_alone o) d.answer d.marks d.rests d.down) ≡ bit (is_some_of such (submit_in o d.answer))
+      → sum_of (host_call_entries s p d.call (host_call_alone o) d.answer d.marks (numbers_of d.rests) d.down) ≡ bit (is_some_of such (submit_in o d.answer))
   alone p op.Serve d is = still_call p d host_call.Serve refl
   alone p op.Down d is = still_call p d host_call.Down refl
   alone p op.Up d is = still_call p d host_call.Up refl
@@ -93,7 +94,7 @@ module _ (s : Scene) (raw : are_raw s.devices ≡ true) (takes : (u : ℕ) (c : 
   alone p (op.Unbuilt code) d is = absurd is
 
   by_target : (p code : ℕ) (o : Operation) (on : Target) (d : CallRecord) → IsBuilt s code on → IsAnswered s d (host_call_by s o on) d.answer
-      → sum_of (host_call_entries s p d.call (host_call_by s o on) d.answer d.marks d.rests d.down) ≡ bit (is_some_of such (submit_in o d.answer))
+      → sum_of (host_call_entries s p d.call (host_call_by s o on) d.answer d.marks (numbers_of d.rests) d.down) ≡ bit (is_some_of such (submit_in o d.answer))
   by_target p code o target.Nothing d built is = alone p o d is
   by_target p code o (target.Urb u) d built is = on_urb p o u d built.2 is
   by_target p code o (target.Role device interface role) d built is = absurd (none_driven s.devices device raw built.3)

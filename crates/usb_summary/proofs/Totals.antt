@@ -23,6 +23,7 @@ use Rattle.usb_prepare.proofs.Facts.{scripted_home}
 use Rattle.usb_trace.specs.declared.rows.CallMade.{CallMade}
 use Rattle.usb_trace.specs.declared.rows.GivebackRow.{GivebackRow}
 use Rattle.usb_trace.specs.Plan.{submit_fault, fresh, pass_of}
+use Rattle.usb_trace.specs.Claims.{numbers_of}
 use Rattle.usb_trace.specs.Run.{CallRecord, Giveback, call_entries, moved_in, is_aside, done_by, closing, IsFramed, IsRun}
 use Rattle.usb_line.specs.Line.{Progress, IsLineRun}
 use Rattle.usb_trace.specs.GivebackRow.{giveback_row}
@@ -117,10 +118,10 @@ module _ (number : ℕ) (good : IsWellFormed (generated number)) where
           let split : part_of h 3 ≡ part_of framed.first 3 ++ (part_of framed.middle 3 ++ part_of framed.last 3) =
           ap (λ l. part_of l 3) framed.split ∙ (filter-append (λ (x : Entry). eqb x.pass 3) framed.first (framed.middle ++ framed.last)
           ∙ ap (λ l. part_of framed.first 3 ++ l) (filter-append (λ (x : Entry). eqb x.pass 3) framed.middle framed.last)) in
-          let last : part_of h 3 ≡ closing (generated number) framed.marks framed.rests =
+          let last : part_of h 3 ≡ closing (generated number) framed.marks (numbers_of framed.rests) =
           split ∙ (ap (λ l. l ++ (part_of framed.middle 3 ++ part_of framed.last 3)) (framed.opens ∙ opens_empty (generated number) (all_raw number))
           ∙ (ap (λ l. l ++ part_of framed.last 3) framed.between ∙ framed.closes)) in
-          ap sum_of last ∙ still_counted q such gives t (closing (generated number) framed.marks framed.rests) (still_closing (generated number) framed.marks framed.rests)
+          ap sum_of last ∙ still_counted q such gives t (closing (generated number) framed.marks (numbers_of framed.rests)) (still_closing (generated number) framed.marks (numbers_of framed.rests))
 
       all_counted : sum_of h ≡ (length (map (giveback_row (generated number)) rounds) * bit gives
           + count_by (λ (g : GivebackRow). is_some_of such (again_code g.outcome)) (map (giveback_row (generated number)) rounds))

@@ -38,6 +38,7 @@ use Rattle.usb_trace.specs.declared.rows.CallAnswer.{CallAnswer}
 use Rattle.usb_trace.specs.declared.rows.CallAnswer.TheVariants as told
 use Rattle.usb_trace.specs.Plan.{owner_of, origin_of, DriverQuestion, question_with, owner_question, question_at, reading, read_by, number_of, fresh, submit_fault, pass_of, host_call_of, main_pass}
 use Rattle.usb_trace.specs.Run.{CallRecord, Giveback, IsRun, IsFramed, urbs_of, submit_of, killed_by, host_call_entries, call_entries, done_by, read_entries_by, read_entries, opening, kills_of, seen_quiet, closing}
+use Rattle.usb_trace.specs.Claims.{numbers_of}
 use Rattle.usb_trace.proofs.Stills.{IsStill, AreStill, AreStill-append, flags_still, unflags_still, marks_still}
 
 -- where an entry is an accepted submit of URB u, its window begins at the first byte
@@ -82,7 +83,7 @@ module _ (u p : ℕ) where
 
 -- the entries of a call
 module _ (u : ℕ) (s : Scene) (p : ℕ) (d : CallRecord) where
-  host_call_begins : (dd : HostCall) (a : CallAnswer) → AllBegin u (host_call_entries s p d.call dd a d.marks d.rests d.down)
+  host_call_begins : (dd : HostCall) (a : CallAnswer) → AllBegin u (host_call_entries s p d.call dd a d.marks (numbers_of d.rests) d.down)
   host_call_begins (host_call.Submit v) (told.Code c) = sent_begins u p (submit_fault s v d.call) v (fresh s v d.call) c refl
   host_call_begins (host_call.Unlink v) (told.Code c) = (tt, tt)
   host_call_begins (host_call.Kill v) (told.Buffer n) = go d.marks
@@ -101,13 +102,13 @@ module _ (u : ℕ) (s : Scene) (p : ℕ) (d : CallRecord) where
   host_call_begins host_call.Down told.Done =
       let flags : List Entry = map (λ v. plain_entry p (Flag record { 0 = v } flag.Down)) (urbs_of s) in
       let marks : List Entry = marks_of p Shutdown (urbs_of s) d.marks in
-      let claims : List Entry = claims_of p (urbs_of s) d.rests in
+      let claims : List Entry = claims_of p (urbs_of s) (numbers_of d.rests) in
       stills_begin u ((flags ++ marks) ++ claims)
-      (AreStill-append (flags ++ marks) claims (AreStill-append flags marks (flags_still p flag.Down (urbs_of s)) (marks_still p Shutdown (urbs_of s) d.marks)) (claims_still p (urbs_of s) d.rests))
+      (AreStill-append (flags ++ marks) claims (AreStill-append flags marks (flags_still p flag.Down (urbs_of s)) (marks_still p Shutdown (urbs_of s) d.marks)) (claims_still p (urbs_of s) (numbers_of d.rests)))
   host_call_begins host_call.Up told.Done = go d.down
     where
-      go : (b : Bool) → AllBegin u (host_call_entries s p d.call host_call.Up told.Done d.marks d.rests b)
-      go true = stills_begin u (host_call_entries s p d.call host_call.Up told.Done d.marks d.rests true) (unflags_still p flag.Down (urbs_of s))
+      go : (b : Bool) → AllBegin u (host_call_entries s p d.call host_call.Up told.Done d.marks (numbers_of d.rests) b)
+      go true = stills_begin u (host_call_entries s p d.call host_call.Up told.Done d.marks (numbers_of d.rests) true) (unflags_still p flag.Down (urbs_of s))
       go false = tt
   host_call_begins _ _ = tt
 
@@ -143,8 +144,8 @@ module _ (u : ℕ) (s : Scene) where
       let parts : of h ≡ of framed.first ++ (of framed.middle ++ of framed.last)
       = ap of framed.split ∙ (filter-append (λ x. eqb x.pass (main_pass s)) framed.first (framed.middle ++ framed.last)
       ∙ ap (λ l. of framed.first ++ l) (filter-append (λ x. eqb x.pass (main_pass s)) framed.middle framed.last)) in
-      let same : of h ≡ opening s ++ ([] ++ closing s framed.marks framed.rests) = parts ∙ (λ i. framed.opens i ++ (framed.between i ++ framed.closes i)) in
-      subst (AllBegin u) (sym same) (AllBegin-append u (opening s) (closing s framed.marks framed.rests) opening_begins (closing_begins framed.marks framed.rests))
+      let same : of h ≡ opening s ++ ([] ++ closing s framed.marks (numbers_of framed.rests)) = parts ∙ (λ i. framed.opens i ++ (framed.between i ++ framed.closes i)) in
+      subst (AllBegin u) (sym same) (AllBegin-append u (opening s) (closing s framed.marks (numbers_of framed.rests)) opening_begins (closing_begins framed.marks (numbers_of framed.rests)))
 
   -- a pass is a thread's, or none's
   which : (p : ℕ) (G : Type 0) (n : ℕ) → ((i : ℕ) → i < n → p ≡ pass_of s i → G) → (((i : ℕ) → i < n → p ≢ pass_of s i) → G) → G

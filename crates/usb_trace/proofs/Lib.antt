@@ -1,5 +1,6 @@
 pub mod AskedEach
 pub mod Entries
+pub mod Claims
 pub mod Dues
 pub mod Bytes
 pub mod Stills
@@ -10,6 +11,7 @@ pub mod Owners
 pub mod ExampleScenes
 mod HandlerExamples
 mod CallExamples
+mod ClaimExamples
 pub mod GivenBack
 pub mod FinishedFlags
 pub mod OneStatus
@@ -22,3 +24,4 @@ pub mod Jobs
 pub mod Heard
 pub mod Moves
 pub mod Resent
+pub mod Claimed

@@ -1,5 +1,6 @@
 pub mod Script
 pub mod Plan
+pub mod Claims
 pub mod Due
 pub mod Run
 pub mod GivebackRow

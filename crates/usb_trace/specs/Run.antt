@@ -1,6 +1,6 @@
 -- What a history has to do with a scene, in whatever order its entries came.
 use Rattle.std.specs.Prelude.{ℕ, ◌+◌, ◌≡◌, ◌≢◌, ◌<◌, ◌==◌, ◌&&◌, ◌||◌, nat_lt, fold, Bool, true, false, not, if◌then◌else◌, List, [], ◌∷◌, ◌++◌, length, map, filter, count_by, slice_get, filter_map, Option, Some, None, option_and_then, replicate}
-use Rattle.std.specs.List.{flat_map, All}
+use Rattle.std.specs.List.{flat_map, zip, All}
 use Rattle.std.specs.Option.{option_map_or}
 use Rattle.usb_types.specs.declared.errno.Errno.{Errno}
 use Rattle.usb_types.specs.declared.errno.Errno.TheVariants.{ENODEV, ESHUTDOWN}
@@ -47,19 +47,20 @@ use Rattle.usb_prepare.specs.Layout.{urb_count, home}
 use Rattle.usb_prepare.specs.Prepared.{bindings_of}
 use Rattle.usb_trace.specs.Plan.{machine_of, handlers_pass, owner_of, read_of, origin_of, DriverQuestion, question_at, fresh, submit_fault, again_of, host_call_of, pass_of, main_pass}
 use Rattle.usb_trace.specs.Due.{next_due}
+use Rattle.usb_trace.specs.Claims.{claimed_by, numbers_of}
 
 -- all URBs of a scene
 abbrev pub urbs_of : Scene → List ℕ
 urbs_of s = below (urb_count s)
 
 -- a call that a thread made, with its answer, and with what its entries answered that it does not report: what the marks
--- of URBs were answered, what rested, and whether the host was down before
+-- of URBs were answered, what rested with each URB that it claimed, and whether the host was down before
 pub record CallRecord : Type 0 where
   pub thread : ℕ
   pub call : Call
   pub answer : CallAnswer
   pub marks : List Code
-  pub rests : List (Option ℕ)
+  pub rests : List (Option Transfer)
   pub down : Bool
 
 abbrev pub submit_of : Option Errno → ℕ → ℕ → Transfer → Code → List Entry
@@ -84,7 +85,18 @@ host_call_entries s p c host_call.Up told.Done marks rests true = unflag_entries
 host_call_entries s p c d a marks rests down = []
 
 abbrev pub call_entries : Scene → CallRecord → List Entry
-call_entries s d = host_call_entries s (pass_of s d.thread) d.call (host_call_of s d.call) d.answer d.marks d.rests d.down
+call_entries s d = host_call_entries s (pass_of s d.thread) d.call (host_call_of s d.call) d.answer d.marks (numbers_of d.rests) d.down
+
+-- the URBs that a call claims: a kill and a poison their own, and down all
+abbrev pub claimed_urbs : Scene → HostCall → CallAnswer → List ℕ
+claimed_urbs s (host_call.Kill u) a = u ∷ []
+claimed_urbs s (host_call.Poison u) a = u ∷ []
+claimed_urbs s host_call.Down told.Done = urbs_of s
+claimed_urbs s d a = []
+
+-- each URB that a call claimed, with what rested with it
+abbrev pub claims_in : Scene → CallRecord → List (ℕ × Option Transfer)
+claims_in s d = zip (claimed_urbs s (host_call_of s d.call) d.answer) d.rests
 
 -- a submit whose shape has a fault answers that fault
 abbrev pub IsShapeAnswer : Option Errno → Code → Type 0
@@ -100,8 +112,8 @@ IsDownAnswer false a = a ≡ told.Done
 abbrev pub IsAnswered : Scene → CallRecord → HostCall → CallAnswer → Type 0
 IsAnswered s d (host_call.Submit u) (told.Code a) = IsShapeAnswer (submit_fault s u d.call) a
 IsAnswered s d (host_call.Unlink u) (told.Code a) = Unit {0}
-IsAnswered s d (host_call.Kill u) (told.Buffer n) = length d.marks ≡ 1
-IsAnswered s d (host_call.Poison u) (told.Buffer n) = length d.marks ≡ 1
+IsAnswered s d (host_call.Kill u) (told.Buffer n) = (length d.marks ≡ 1) × (numbers_of d.rests ≡ n ∷ [])
+IsAnswered s d (host_call.Poison u) (told.Buffer n) = (length d.marks ≡ 1) × (numbers_of d.rests ≡ n ∷ [])
 IsAnswered s d (host_call.Unpoison u) a = a ≡ told.Done
 IsAnswered s d (host_call.Block u) a = a ≡ told.Done
 IsAnswered s d (host_call.Unblock u) a = a ≡ told.Done
@@ -111,10 +123,11 @@ IsAnswered s d host_call.Up a = a ≡ told.Done
 IsAnswered s d host_call.Absent a = a ≡ told.Code (Fault ENODEV)
 IsAnswered s d _ a = ⊥
 
--- a call of a thread that is there, with an answer of its kind
+-- a call of a thread that is there, with an answer of its kind, and with what it claimed of each URB
 pub record IsMade (s : Scene) (d : CallRecord) : Type 0 where
   pub thread : d.thread < length s.threads
   pub answered : IsAnswered s d (host_call_of s d.call) d.answer
+  pub claims : length d.rests ≡ length (claimed_urbs s (host_call_of s d.call) d.answer)
 
 -- whether the host is down after a call
 abbrev pub down_after : Bool → HostCall → CallAnswer → Bool
@@ -337,10 +350,11 @@ seen_quiet p u = plain_entry p (Reject record { 0 = u }) ∷ plain_entry p (Quie
 abbrev pub closing : Scene → List Code → List (Option ℕ) → List Entry
 closing s marks rests = kills_of (main_pass s) (urbs_of s) marks rests ++ flat_map (seen_quiet (main_pass s)) (urbs_of s)
 
--- main submits the drivers' reads before the threads begin, and closes with these answers after all that they did
+-- main submits the drivers' reads before the threads begin, and closes with these answers after all that they did. What it
+-- claims then is what rested with each URB
 pub record IsFramed (s : Scene) (h : List Entry) : Type 0 where
   pub marks : List Code
-  pub rests : List (Option ℕ)
+  pub rests : List (Option Transfer)
   pub first : List Entry
   pub middle : List Entry
   pub last : List Entry
@@ -348,7 +362,8 @@ pub record IsFramed (s : Scene) (h : List Entry) : Type 0 where
   pub split : h ≡ first ++ (middle ++ last)
   pub opens : part_of first (main_pass s) ≡ opening s
   pub between : part_of middle (main_pass s) ≡ []
-  pub closes : part_of last (main_pass s) ≡ closing s marks rests
+  pub closes : part_of last (main_pass s) ≡ closing s marks (numbers_of rests)
+  pub claims : claimed_by (main_pass s) h ≡ zip (urbs_of s) rests
   pub silent : (i : ℕ) → i < length s.threads → (part_of first (pass_of s i) ≡ []) × (part_of last (pass_of s i) ≡ [])
 
 -- nothing is left: no URB is queued, no handler runs, and all lists are empty
@@ -368,6 +383,8 @@ pub record IsRun (s : Scene) (h : List Entry) (call_records : List CallRecord) (
   pub calls : (i : ℕ) (thread : SceneThread) → slice_get s.threads i ≡ Some thread → map (λ d. d.call) (done_by i call_records) ≡ thread.calls
   -- a thread's part of the history is the entries of its calls with their answers
   pub threads : (i : ℕ) → i < length s.threads → part_of h (pass_of s i) ≡ flat_map (call_entries s) (done_by i call_records)
+  -- and what its calls claimed is what rested with those URBs
+  pub claims : (i : ℕ) → i < length s.threads → claimed_by (pass_of s i) h ≡ flat_map (claims_in s) (done_by i call_records)
   pub framed : IsFramed s h
   -- the controller takes and finds marks, and beside this it gives back one URB after another
   pub server : filter (λ x. not (is_aside x.event x.answer) && not (is_handlers x.event)) (part_of h SERVER) ≡ flat_map (λ r. given_entries r.urb r.status r.finished) rounds

@@ -8,13 +8,14 @@ use Rattle.usb_types.specs.declared.urb.Role.TheVariants.{Write}
 use Rattle.usb_types.specs.Codes.{errno_of}
 use Rattle.usb_machine.specs.declared.layout.Shape.{Shape}
 use Rattle.usb_machine.specs.declared.event.Event.{Event}
-use Rattle.usb_machine.specs.declared.event.Event.TheVariants.{Mark, Finish}
-use Rattle.usb_machine.specs.declared.event.Answer.TheVariants.{Code as Status}
+use Rattle.usb_machine.specs.declared.event.Event.TheVariants.{Mark, Finish, Rest, Claim}
+use Rattle.usb_machine.specs.declared.event.Answer.TheVariants.{Code as Status, Number}
 use Rattle.usb_machine.specs.declared.transfer.Transfer.{Transfer}
 use Rattle.usb_machine.specs.Completion.{Completion}
 use Rattle.usb_machine.specs.declared.entry.Entry.{Entry}
 use Rattle.usb_machine.specs.History.{episodes_of}
-use Rattle.usb_machine.specs.Laws.{HasEpisode}
+use Rattle.usb_machine.specs.State.{is_zero}
+use Rattle.usb_machine.specs.Laws.{HasEpisode, NoneRestsOrClaims}
 use Rattle.usb_xfer.specs.declared.packet.Step.TheVariants.{Ended}
 use Rattle.usb_xfer.specs.Direction.{is_control, goes_in}
 use Rattle.usb_xfer.specs.Replies.{Reply, acked_by}
@@ -30,7 +31,7 @@ use Rattle.usb_trace.specs.declared.owner.Owner.{Owner}
 use Rattle.usb_trace.specs.declared.rows.Outcome.{Outcome}
 use Rattle.usb_trace.specs.declared.rows.Outcome.TheVariants as outcome
 use Rattle.usb_trace.specs.Plan.{owner_of}
-use Rattle.usb_trace.specs.Run.{Giveback, moved_in, done_at}
+use Rattle.usb_trace.specs.Run.{Giveback, moved_in, resent, done_at}
 
 -- giveback number k of a run in its history: an accepted submit of the URB with the transfer that was sent, the entries
 -- between, and the URB's next Give, which is number k of the history and answers the status
@@ -111,3 +112,28 @@ pub record IsForWrites (s : Scene) (u : ℕ) : Type 0 where
   pub driver : owner.driver ≡ Printer
   pub role : owner.role ≡ Write
   pub packets : takes_packets (shape_at s (home s u)) ≡ true
+
+-- the transfer that a handler leaves with its URB: the one that came back, or the one that it submitted again in vain
+abbrev pub left_by : Transfer → Transfer → Outcome → Option Transfer
+left_by back again outcome.Rest = Some back
+left_by back again (outcome.Again code) = if is_zero code then None else Some again
+left_by back again (outcome.Asked code) = Some back
+
+abbrev pub left_with : Scene → Giveback → Option Transfer
+left_with s r = left_by (moved_in s r) (resent s r) r.outcome
+
+-- a handler of URB u rested this transfer, and it is the one that pass p claimed: between the two no other was rested with u,
+-- and none was claimed
+pub record IsLastRest (h : List Entry) (p u : ℕ) (t : Transfer) : Type 0 where
+  pub before : List Entry
+  pub rest : Entry
+  pub between : List Entry
+  pub claim : Entry
+  pub behind : List Entry
+  pub parts : h ≡ before ++ rest ∷ (between ++ claim ∷ behind)
+  pub rests : rest.event ≡ Rest record { 0 = u } t.number
+  pub carries : rest.carried ≡ Some t
+  pub none : NoneRestsOrClaims u between
+  pub claims : claim.event ≡ Claim record { 0 = u }
+  pub pass : claim.pass ≡ p
+  pub answers : claim.answer ≡ Number (Some t.number)

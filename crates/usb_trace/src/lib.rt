@@ -16,5 +16,6 @@ pub use run_laws::{
     a_drivers_windows_follow_one_another, a_printers_windows_are_jobs,
     a_status_is_the_first_unlinks_or_the_transfers, a_transfer_that_goes_again_comes_back_next,
     an_endpoint_received_what_it_acknowledged, each_accepted_urb_is_given_back_once,
+    what_a_call_claims_came_back,
 };
 pub use thread::{host_call_in, main_pass_of, pass_of_thread};

@@ -1,8 +1,10 @@
 //! What holds of each run of a scene, in whatever order its entries came.
-ghost use Rattle.std.specs.Prelude.{ℕ, ◌≡◌, ◌==◌, true, false, List, [], ◌∷◌, ◌++◌, length, Some, slice_get, filter, All};
+ghost use Rattle.std.specs.Prelude.{ℕ, ◌≡◌, ◌==◌, true, false, List, [], ◌∷◌, ◌++◌, length, Option, Some, slice_get, filter, All, Contains};
 ghost use Rattle.std.specs.List.{flat_map};
 ghost use Rattle.usb_types.specs.declared.errno.Code.TheVariants.{Zero};
 ghost use Rattle.usb_machine.specs.declared.entry.Entry.{Entry};
+ghost use Rattle.usb_machine.specs.declared.transfer.Transfer.{Transfer};
+ghost use Rattle.usb_machine.specs.HostCalls.{number_of};
 ghost use Rattle.usb_machine.specs.Laws.{submits};
 ghost use Rattle.usb_scene.specs.declared.scene.Scene.{Scene};
 ghost use Rattle.usb_printer.specs.Whole.{IsMovedOn};
@@ -10,13 +12,14 @@ ghost use Rattle.usb_class.specs.Handler.{action_of};
 ghost use Rattle.usb_prepare.specs.Ends.{shape_at};
 ghost use Rattle.usb_prepare.specs.Layout.{home};
 ghost use Rattle.usb_trace.specs.declared.owner.Owner.{Owner};
+ghost use Rattle.usb_trace.specs.declared.rows.CallAnswer.TheVariants.{Buffer};
 ghost use Rattle.usb_trace.specs.declared.rows.Outcome.TheVariants.{Again};
 ghost use Rattle.usb_trace.specs.Script.{replies_from};
-ghost use Rattle.usb_trace.specs.Plan.{owner_of, script_of};
+ghost use Rattle.usb_trace.specs.Plan.{owner_of, script_of, pass_of};
 ghost use Rattle.usb_trace.specs.Due.{is_ruled};
-ghost use Rattle.usb_trace.specs.Run.{CallRecord, Giveback, IsRun, times_back, moved_in, resent, rounds_at, replies_in};
+ghost use Rattle.usb_trace.specs.Run.{CallRecord, claims_in, Giveback, IsRun, times_back, moved_in, resent, rounds_at, replies_in};
 ghost use Rattle.usb_trace.specs.GivebackRow.{acked_at};
-ghost use Rattle.usb_trace.specs.RunLaws.{IsGivenBack, first_ending, HasStatusBy, acked_packets, takes_packets, acked_window, IsJobInRun, IsForWrites, writes_of, writes_heard};
+ghost use Rattle.usb_trace.specs.RunLaws.{IsGivenBack, first_ending, HasStatusBy, acked_packets, takes_packets, acked_window, IsJobInRun, IsForWrites, writes_of, writes_heard, left_with, IsLastRest};
 
 /// An URB is given back as often as a submit of it was accepted.
 pub fn each_accepted_urb_is_given_back_once()
@@ -75,4 +78,18 @@ pub fn a_printers_windows_are_jobs()
     ensures jobs { (s : Scene) (h : List Entry) (call_records : List CallRecord) (rounds : List Giveback) → IsRun s h call_records rounds
         → (u : ℕ) → IsForWrites s u
         → (jobs : List (List Giveback)) × (filter (λ r. r.urb == u) rounds ≡ flat_map (λ job. job) jobs) × (All (IsJobInRun s) jobs) }
+{}
+
+/// A transfer that a kill, a poison or a down claimed is the one that last rested with its URB. A giveback of that URB left it there: it
+/// is the transfer that came back, or the one that the handler submitted again in vain, and has the number that was sent. A kill and
+/// a poison answer the number of what they claimed.
+pub fn what_a_call_claims_came_back()
+    ensures rested { (s : Scene) (h : List Entry) (call_records : List CallRecord) (rounds : List Giveback) → IsRun s h call_records rounds
+        → (d : CallRecord) → Contains call_records d → (u : ℕ) (t : Transfer) → Contains (claims_in s d) (u, Some t) → IsLastRest h (pass_of s d.thread) u t }
+    ensures came_back { (s : Scene) (h : List Entry) (call_records : List CallRecord) (rounds : List Giveback) → IsRun s h call_records rounds
+        → (d : CallRecord) → Contains call_records d → (u : ℕ) (t : Transfer) → Contains (claims_in s d) (u, Some t)
+        → (r : Giveback) × (Contains rounds r) × (r.urb ≡ u) × (left_with s r ≡ Some t) × (t.number ≡ r.sent.number) }
+    ensures told { (s : Scene) (h : List Entry) (call_records : List CallRecord) (rounds : List Giveback) → IsRun s h call_records rounds
+        → (d : CallRecord) → Contains call_records d → (n : Option ℕ) → d.answer ≡ Buffer n
+        → (u : ℕ) × (rest : Option Transfer) × (claims_in s d ≡ (u, rest) ∷ []) × (n ≡ number_of rest) }
 {}
