@@ -20,6 +20,7 @@ use Rattle.usb_scene.specs.declared.scene.Scene.{Scene}
 use Rattle.usb_scene.specs.WellFormed.{IsWellFormed}
 use Rattle.usb_prepare.specs.Layout.{urb_count}
 use Rattle.usb_trace.specs.Plan.{machine_of, read_of, pass_of, main_pass}
+use Rattle.usb_trace.specs.Claims.{numbers_of}
 use Rattle.usb_trace.specs.Run.{urbs_of, call_entries, done_by, opening, closing, seen_quiet, read_entries_by, IsMade, IsFramed, IsRun}
 use Rattle.usb_trace.proofs.Entries.{part_own, part_other}
 use Rattle.usb_line.specs.Line.{Progress, begun, IsLineRun}
@@ -32,7 +33,7 @@ use Rattle.usb_threads.specs.MainPass.{read_answered, HasRead, none, one, IsMain
 use Rattle.usb_threads.specs.Scripts.{IsJoined}
 use Rattle.usb_threads.specs.Serving.{IsServer}
 use Rattle.usb_threads.specs.Promises.{IsPutTogether}
-use Rattle.usb_threads.proofs.Lists.{begins_prefix, part-append, part_longer}
+use Rattle.usb_threads.proofs.Lists.{begins_prefix, part-append, part_longer, claimed_then}
 use Rattle.usb_threads.proofs.Threads.{done_are, done_told}
 
 -- of two beginnings of a list the shorter begins the longer
@@ -73,8 +74,8 @@ module _ (g : Machine) (h : List Entry) (legal : IsLegal g h) where
   pub in_wholes : (n k : ℕ) → k < n → Contains (wholes n) (whole k)
   in_wholes zero k l = absurd (omega arith)
   in_wholes (suc n) k l = dite (ℕ_discrete k n)
-      (λ is. subst (λ j. Contains (wholes (suc n)) (whole j)) (sym is) (0, (omega arith, refl)))
-      (λ off. let i = in_wholes n k (omega arith) in (suc i.0, ((let m = i.1 in omega arith), i.2)))
+      (λ is. subst (λ j. Contains (wholes (suc n)) (whole j)) (sym is) (0, omega arith, refl))
+      (λ off. let i = in_wholes n k (omega arith) in (suc i.0, (let m = i.1 in omega arith), i.2))
 
   each_whole : (P : Known → Type 0) → ((k : ℕ) → P (whole k)) → (n : ℕ) → All P (wholes n)
   each_whole P each zero = All-nil P
@@ -84,7 +85,7 @@ module _ (g : Machine) (h : List Entry) (legal : IsLegal g h) where
   IsIn x = Any (λ (p : Known). p.number ≡ x.pass) (wholes g.passes)
 
   is_in : (x : Entry) → x.pass < g.passes → IsIn x
-  is_in x l = let i = in_wholes g.passes x.pass l in (i.0, (whole x.pass, (i.1, (i.2, refl))))
+  is_in x l = let i = in_wholes g.passes x.pass l in (i.0, whole x.pass, i.1, i.2, refl)
 
   all_in : (k : List Entry) → IsLegal g k → All IsIn k
   all_in _ empty = All-nil IsIn
@@ -158,7 +159,7 @@ module _ (s : Scene) (good : IsWellFormed s) (f : Progress) (line : IsLineRun s 
   own_opening = part_own p (opening s) (reads_pass s (urb_count s))
 
   abbrev close : List Entry
-  close = closing s framed.marks framed.rests
+  close = closing s framed.marks (numbers_of framed.rests)
 
   main_part : part_of h p ≡ opening s ++ close
   main_part = part_longer p h before before_end ∙ (λ i. before_main i ++ framed.closes i)
@@ -186,7 +187,7 @@ module _ (s : Scene) (good : IsWellFormed s) (f : Progress) (line : IsLineRun s 
     meets = record { grown = record { number = refl; begins = opening_before; mine = sym (append-nil (opening s)) }; sound = record { legal = legal_before; own = before_main } };
     more = close;
     went = record { grown = record { number = refl; begins = before_end; mine = main_part }; sound = record { legal = run.legal; own = refl } };
-    closes = record { marks = framed.marks; rests = framed.rests; each = framed.each; entries = refl };
+    closes = record { marks = framed.marks; rests = framed.rests; each = framed.each; entries = refl; claims = framed.claims };
   }
 
   part_before : (i : ℕ) → i < length s.threads → part_of before (pass_of s i) ≡ part_of h (pass_of s i)
@@ -203,6 +204,7 @@ module _ (s : Scene) (good : IsWellFormed s) (f : Progress) (line : IsLineRun s 
     worked = record {
       went = record { grown = record { number = refl; begins = opening_before; mine = refl }; sound = record { legal = legal_before; own = part_before i l ∙ run.threads i l } };
       made = record { calls = run.calls i thread.0 thread.1; whose = done_are i f.call_records; told = done_told (IsMade s) i f.call_records run.told; downs = run.downs i l };
+      claims = sym (claimed_then (pass_of s i) h before (part_of h (pass_of s i)) before_end (part_before i l) refl) ∙ run.claims i l;
     };
     told = begins_self before;
     last = whole g h run.legal (pass_of s i);

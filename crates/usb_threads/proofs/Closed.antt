@@ -15,11 +15,11 @@ Found ps q = (p : Known) × Contains ps p × (p.number ≡ q)
 -- of a number that has an entry there is a pass
 found_or_none : (ps : List Known) (q : ℕ) (xs : List Entry) → All (λ (x : Entry). Any (λ (p : Known). p.number ≡ x.pass) ps) xs → Found ps q ⊎ (part_of xs q ≡ [])
 found_or_none ps q [] made = inr refl
-found_or_none ps q (x ∷ xs) made = go (eqb x.pass q) refl
+found_or_none ps q (x ∷ xs) made = go (eqb x.pass q) refl (found_or_none ps q xs (All-tail (λ (x : Entry). Any (λ (p : Known). p.number ≡ x.pass) ps) x xs made))
   where
-    go : (b : Bool) → eqb x.pass q ≡ b → Found ps q ⊎ (cond b (x ∷ part_of xs q) (part_of xs q) ≡ [])
-    go true e = let is = All-head (λ (x : Entry). Any (λ (p : Known). p.number ≡ x.pass) ps) x xs made in inl (is.1, ((is.0, (is.2, is.3)), is.4 ∙ eqb-true x.pass q e))
-    go false e = found_or_none ps q xs (All-tail (λ (x : Entry). Any (λ (p : Known). p.number ≡ x.pass) ps) x xs made)
+    go : (b : Bool) → eqb x.pass q ≡ b → Found ps q ⊎ (part_of xs q ≡ []) → Found ps q ⊎ (cond b (x ∷ part_of xs q) (part_of xs q) ≡ [])
+    go true e rest = let is = All-head (λ (x : Entry). Any (λ (p : Known). p.number ≡ x.pass) ps) x xs made in inl (is.1, (is.0, is.2, is.3), is.4 ∙ eqb-true x.pass q e)
+    go false e rest = rest
 
 module _ (g : Machine) (h : List Entry) (ps : List Known) (closed : IsClosed g h ps) where
   pub closed_begins : (p : Known) → Contains ps p → Begins h p.seen

@@ -21,6 +21,7 @@ use Rattle.usb_trace.specs.declared.rows.HostCall.TheVariants as host_call
 use Rattle.usb_trace.specs.declared.rows.CallAnswer.{CallAnswer}
 use Rattle.usb_trace.specs.declared.rows.CallAnswer.TheVariants as told
 use Rattle.usb_trace.specs.Plan.{fresh, submit_fault, pass_of, host_call_of, is_hub}
+use Rattle.usb_trace.specs.Claims.{numbers_of}
 use Rattle.usb_trace.specs.Run.{CallRecord, call_entries, host_call_entries, IsMade, IsAnswered, down_after, IsFound, AreFound}
 use Rattle.usb_line.proofs.Held.{AreNoFlag, rejects_at, down_at, no_flag}
 use Rattle.usb_line.proofs.HostCalls.{raises, withdraws, is_hubs, named, host_call_hubs, sum_raised, sum_withdrawn, withdraws_named, withdraws_own, none_or_named}
@@ -138,7 +139,7 @@ module _ (s : Scene) (good : IsWellFormed s) (i : ℕ) (t : SceneThread) (at : s
       go : (b : Bool) → is_hubs (host_call_of s d.call) ≡ b → down_at v (entries ds ++ call_entries s d) ≡ down_after (down_by s false ds) (host_call_of s d.call) d.answer
       go true e = let is = found_down (host_call_of s d.call) d.down (down_by s false ds) e found in
           down_effect s (pass_of s d.thread) d (entries ds) v near (host_call_of s d.call) d.answer answered (old v near ∙ sym is) ∙ ap (λ b. down_after b (host_call_of s d.call) d.answer) is
-      go false e = ap (λ (f : Flags). f.down) (no_flag v (entries ds) (call_entries s d) (plain_no_flag s (pass_of s d.thread) d.call (host_call_of s d.call) d.answer d.marks d.rests d.down e))
+      go false e = ap (λ (f : Flags). f.down) (no_flag v (entries ds) (call_entries s d) (plain_no_flag s (pass_of s d.thread) d.call (host_call_of s d.call) d.answer d.marks (numbers_of d.rests) d.down e))
           ∙ (old v near ∙ sym (plain_down (down_by s false ds) (host_call_of s d.call) d.answer e))
 
   -- over all calls that were made

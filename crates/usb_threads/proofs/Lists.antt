@@ -1,5 +1,5 @@
 -- Parts of longer histories.
-use Rattle.std.proofs.Common.{ℕ, ◌≡◌, ◌≢◌, cond, eqb, List, [], ◌∷◌, ◌++◌, length, refl, sym, ap, ◌∙◌, arith, append-nil, length-append, eq-eqb, ne_eqb}
+use Rattle.std.proofs.Common.{ℕ, ◌≡◌, ◌≢◌, cond, eqb, List, [], ◌∷◌, ◌++◌, length, refl, sym, ap, ◌∙◌, arith, append_assoc, append-nil, length-append, eq-eqb, ne_eqb}
 use Rattle.std.proofs.lemmas.List.Elements.{filter-append}
 use mathlib.Core.List.{IsPrefix}
 use mathlib.Core.Logic.{dite}
@@ -7,7 +7,8 @@ use native.Mathlib.Decide.{ℕ_discrete}
 use Rattle.usb_machine.specs.declared.entry.Entry.{Entry}
 use Rattle.usb_machine.specs.Parts.{part_of}
 use Rattle.usb_machine.specs.Fresh.{Begins}
-use Rattle.usb_machine.proofs.Growing.{begins_trans}
+use Rattle.usb_trace.specs.Claims.{claimed_by}
+use Rattle.usb_trace.proofs.Claims.{claimed_same}
 
 -- the same beginning, in the library's word
 pub begins_prefix : (h a : List Entry) → Begins h a → IsPrefix a h
@@ -38,9 +39,14 @@ nothing_after p h a m b at end = no_more m (part_of b.more p) (ap (λ l. l ++ pa
 
 pub part_between : (p : ℕ) (h b a m : List Entry) → Begins h b → Begins b a → part_of a p ≡ m → part_of h p ≡ m → part_of b p ≡ m
 part_between p h b a m hb ba at end =
-    let none : part_of (ba.more ++ hb.more) p ≡ [] = nothing_after p h a m (begins_trans h b a hb ba) at end in
+    let whole : Begins h a = record { more = ba.more ++ hb.more; is = hb.is ∙ (ap (λ l. l ++ hb.more) ba.is ∙ append_assoc a ba.more hb.more) } in
+    let none : part_of (ba.more ++ hb.more) p ≡ [] = nothing_after p h a m whole at end in
     let first : part_of ba.more p ≡ [] = (both_nothing (part_of ba.more p) (part_of hb.more p) (sym (part-append p ba.more hb.more) ∙ none)).0 in
     part_longer p b a ba ∙ ((λ i. at i ++ first i) ∙ append-nil m)
+
+-- and what it has claimed at the end it had claimed at the beginning
+pub claimed_then : (p : ℕ) (h a m : List Entry) → Begins h a → part_of a p ≡ m → part_of h p ≡ m → claimed_by p h ≡ claimed_by p a
+claimed_then p h a m b at end = claimed_same p a h b.more [] b.is (end ∙ (sym at ∙ sym (append-nil (part_of a p)))) tt
 
 -- entries of one pass alone
 pub only_part : (q : ℕ) (xs : List Entry) → ((p : ℕ) → p ≢ q → part_of xs p ≡ []) → part_of xs q ≡ xs

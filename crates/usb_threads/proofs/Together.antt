@@ -21,7 +21,8 @@ use Rattle.usb_scene.specs.declared.scene.Scene.{Scene}
 use Rattle.usb_scene.specs.declared.scene.SceneThread.{SceneThread}
 use Rattle.usb_prepare.specs.Layout.{urb_count}
 use Rattle.usb_trace.specs.Plan.{machine_of, pass_of, main_pass}
-use Rattle.usb_trace.specs.Run.{CallRecord, Giveback, urbs_of, firsts_of, call_entries, done_by, opening, kills_of, seen_quiet, IsMade, AreFound, IsOver, IsFramed, IsRun}
+use Rattle.usb_trace.specs.Claims.{claimed_by, numbers_of}
+use Rattle.usb_trace.specs.Run.{CallRecord, Giveback, urbs_of, firsts_of, call_entries, claims_in, done_by, opening, kills_of, seen_quiet, IsMade, AreFound, IsOver, IsFramed, IsRun}
 use Rattle.usb_trace.proofs.Episodes.{HaveNoGive, no_episode, no_first_given}
 use Rattle.usb_line.proofs.Passes.{main_is_pass}
 use Rattle.usb_line.proofs.Lines.{in_pending_once, no_urbs}
@@ -31,7 +32,7 @@ use Rattle.usb_threads.specs.MainPass.{IsMain, HasClosed}
 use Rattle.usb_threads.specs.Scripts.{IsJoined}
 use Rattle.usb_threads.specs.Serving.{of_givebacks, HasServed}
 use Rattle.usb_threads.specs.Promises.{IsPutTogether, all_made}
-use Rattle.usb_threads.proofs.Lists.{part_longer, nothing_before, nothing_after, part_between, only_part}
+use Rattle.usb_threads.proofs.Lists.{part_longer, nothing_before, nothing_after, part_between, claimed_then, only_part}
 use Rattle.usb_threads.proofs.Closed.{closed_begins, closed_own, closed_none}
 use Rattle.usb_threads.proofs.Accepting.{reads_accepted}
 use Rattle.usb_threads.proofs.Quiet.{kept_all}
@@ -97,11 +98,14 @@ module _ (s : Scene) (h : List Entry) (made : ℕ → List CallRecord) (rounds :
       ap (part_of h) (sym (j.ends.grown.number ∙ (j.worked.went.grown.number ∙ j.ready.number)))
       ∙ (closed_own g h all.passes all.closed j.last j.closed ∙ (j.ends.grown.mine ∙ (append-nil j.to.mine ∙ thread_made i l)))
 
+  thread_seen : (i : ℕ) (l : i < length s.threads) → part_of (joined i l).to.seen (pass_of s i) ≡ flat_map (call_entries s) (made i)
+  thread_seen i l = let j = joined i l in
+      ap (part_of j.to.seen) (sym (j.worked.went.grown.number ∙ j.ready.number)) ∙ (j.worked.went.sound.own ∙ thread_made i l)
+
   thread_met : (i : ℕ) → i < length s.threads → part_of met.seen (pass_of s i) ≡ flat_map (call_entries s) (made i)
   thread_met i l = let j = joined i l in
       part_between (pass_of s i) h met.seen j.to.seen (flat_map (call_entries s) (made i)) met_end j.told
-      (ap (part_of j.to.seen) (sym (j.worked.went.grown.number ∙ j.ready.number)) ∙ (j.worked.went.sound.own ∙ thread_made i l))
-      (thread_part i l)
+      (thread_seen i l) (thread_part i l)
 
   -- passes that nobody used
   spare_none : (q : ℕ) → q ≢ SERVER → q ≢ p → ((i : ℕ) → i < length s.threads → q ≢ pass_of s i) → part_of h q ≡ []
@@ -142,8 +146,21 @@ module _ (s : Scene) (h : List Entry) (made : ℕ → List CallRecord) (rounds :
   main_part : part_of h p ≡ opening s ++ main.more
   main_part = ap (part_of h) (sym number_last) ∙ (closed_own g h all.passes all.closed last all.main_closed ∙ (main.went.grown.mine ∙ ap (λ m. m ++ main.more) met_mine))
 
-  abbrev closes : HasClosed s main.more
+  abbrev closes : HasClosed s last.seen main.more
   closes = main.closes
+
+  -- main has claimed what it had claimed in what it has seen, and so has each thread
+  main_claims : claimed_by p h ≡ claimed_by p last.seen
+  main_claims = claimed_then p h last.seen last.mine (closed_begins g h all.passes all.closed last all.main_closed)
+      (ap (part_of last.seen) (sym number_last) ∙ main.went.sound.own)
+      (ap (part_of h) (sym number_last) ∙ closed_own g h all.passes all.closed last all.main_closed)
+
+  thread_claims : (i : ℕ) → i < length s.threads → claimed_by (pass_of s i) h ≡ flat_map (claims_in s) (made i)
+  thread_claims i l = let j = joined i l in
+      claimed_then (pass_of s i) h j.to.seen (flat_map (call_entries s) (made i))
+      (begins_trans h j.last.seen j.to.seen (closed_begins g h all.passes all.closed j.last j.closed) j.ends.grown.begins)
+      (thread_seen i l) (thread_part i l)
+      ∙ j.worked.claims
 
   is_framed : IsFramed s h
   is_framed = record {
@@ -158,13 +175,14 @@ module _ (s : Scene) (h : List Entry) (made : ℕ → List CallRecord) (rounds :
     between = nothing_after p met.seen read.seen (opening s) read_met (read_part ∙ opened) met_part;
     closes = append_cancel_left (part_of met.seen p) (part_of met_end.more p) main.more
         (sym (part_longer p h met.seen met_end) ∙ (main_part ∙ ap (λ m. m ++ main.more) (sym met_part))) ∙ closes.entries;
+    claims = main_claims ∙ closes.claims;
     silent = λ i l. let j = joined i l in
         (ready_none (pass_of s i) j.from j.ready, nothing_after (pass_of s i) h met.seen (flat_map (call_entries s) (made i)) met_end (thread_met i l) (thread_part i l));
   }
 
   -- main keeps each URB at the end, so that it is quiet
   abbrev killed : List Entry
-  killed = kills_of p urbs closes.marks closes.rests
+  killed = kills_of p urbs closes.marks (numbers_of closes.rests)
 
   main_keeps : (u : ℕ) → u < urb_count s → keeps (part_of h p) u ≡ true
   main_keeps u l = ap (λ m. keeps m u) (main_part ∙ (ap (λ m. opening s ++ m) closes.entries ∙ sym (append_assoc (opening s) killed (flat_map (seen_quiet p) urbs))))
@@ -239,6 +257,7 @@ module _ (s : Scene) (h : List Entry) (made : ℕ → List CallRecord) (rounds :
     downs = λ i l. subst (AreFound s false) (sym (done i l)) (joined i l).worked.made.downs;
     calls = calls_are;
     threads = λ i l. thread_part i l ∙ ap (flat_map (call_entries s)) (sym (done i l));
+    claims = λ i l. thread_claims i l ∙ ap (flat_map (claims_in s)) (sym (done i l));
     framed = is_framed;
     server = of_controller s (part_of h SERVER) rounds (server_entries ∙ served.entries);
     handlers = of_handlers s (part_of h SERVER) rounds (server_entries ∙ served.entries);

@@ -6,7 +6,8 @@ use Rattle.usb_scene.specs.declared.scene.Scene.{Scene}
 use Rattle.usb_scene.specs.declared.scene.SceneThread.{SceneThread}
 use Rattle.usb_scene.specs.declared.scene.Call.{Call}
 use Rattle.usb_trace.specs.Plan.{machine_of, host_call_of, pass_of}
-use Rattle.usb_trace.specs.Run.{CallRecord, call_entries, IsMade, down_after, AreFound}
+use Rattle.usb_trace.specs.Claims.{claimed_by}
+use Rattle.usb_trace.specs.Run.{CallRecord, call_entries, claims_in, IsMade, down_after, AreFound}
 use Rattle.usb_threads.specs.Passes.{WentOn, IsReady}
 
 -- whether the host is down after these calls
@@ -22,10 +23,12 @@ pub record HasMade (s : Scene) (i : ℕ) (script : List Call) (call_records : Li
   pub told : All (IsMade s) call_records
   pub downs : AreFound s false call_records
 
--- and its pass made the entries of these calls, and no others
+-- and its pass made the entries of these calls, and no others. What it has claimed, in the history that it has seen, is what the
+-- calls say
 pub record Worked (s : Scene) (i : ℕ) (script : List Call) (from to : Known) (call_records : List CallRecord) : Type 0 where
   pub went : WentOn (machine_of s) from to (flat_map (call_entries s) call_records)
   pub made : HasMade s i script call_records
+  pub claims : claimed_by (pass_of s i) to.seen ≡ flat_map (claims_in s) call_records
 
 -- thread i: its pass met main before its script, it made its calls, and main met its pass before the close. Meeting main its pass
 -- may have seen more, and so it came to the close
