@@ -30,7 +30,7 @@ module _ (p u : ℕ) (t : Transfer) where
   submit_no_reject None Zero = (tt, (tt, tt))
   submit_no_reject None (Fault e) = (tt, tt)
 
-  submit_no_flag : (o : Option Errno) (c : Code) → AreNoFlag (submit_of o p u t c)
+  pub submit_no_flag : (o : Option Errno) (c : Code) → AreNoFlag (submit_of o p u t c)
   submit_no_flag (Some e) c = tt
   submit_no_flag None Zero = (tt, (tt, tt))
   submit_no_flag None (Fault e) = (tt, tt)

@@ -36,12 +36,12 @@ use Rattle.usb_line.proofs.Longer.{IsLonger, line_longer, closes_longer}
 use Rattle.usb_line.proofs.Claiming.{claims_stay, opening_no_claim, seen_no_claim}
 use Rattle.usb_line.proofs.Closing.{AreKilled, closes_kill, closed, still_queued, seen_still, seen_pass}
 
-in_pending_once : (g : Machine) (h : List Entry) (e v : ℕ) → Placed g h v → times v (pending_of g h e) ≤ bit (state_of h v).queued
+pub in_pending_once : (g : Machine) (h : List Entry) (e v : ℕ) → Placed g h v → times v (pending_of g h e) ≤ bit (state_of h v).queued
 in_pending_once g h e v at = let o = at.once in dite (ℕ_discrete e (home_of g v))
     (λ is. let a : times v (pending_of g h e) ≡ times v (pending_of g h (home_of g v)) = ap (λ d. times v (pending_of g h d)) is in omega arith)
     (λ off. let z = at.pending_else e off in omega arith)
 
-no_urbs : (us : List ℕ) → ((v : ℕ) → times v us ≡ 0) → us ≡ []
+pub no_urbs : (us : List ℕ) → ((v : ℕ) → times v us ≡ 0) → us ≡ []
 no_urbs [] none = refl
 no_urbs (u ∷ us) none = let l = once u (u ∷ us) us refl in let z = none u in absurd (omega arith)
 

@@ -37,7 +37,7 @@ use Rattle.usb_trace.proofs.AskedEach.{asked_each}
 use Rattle.usb_line.proofs.Givebacks.{CanGive, resubmits, IsApart, posed, put, queued_apart, giveback_follow, giveback_pass, giveback_pending, giveback_sent, giveback_posed_sent}
 use Rattle.usb_line.proofs.Calm.{calm_giveback}
 use Rattle.usb_line.proofs.Marked.{first_at_home}
-use Rattle.usb_trace.proofs.Dues.{due-append}
+use Rattle.usb_trace.proofs.Dues.{replies-push}
 use Rattle.usb_trace.proofs.Episodes.{episodes-append, firsts-append}
 use Rattle.usb_trace.proofs.Moves.{moved_same}
 use Rattle.usb_line.proofs.Resending.{resent_setup}
@@ -49,7 +49,7 @@ AreFirstGiven-push [] (c ∷ bs) r b all one = absurd all
 AreFirstGiven-push (q ∷ rounds) [] r b all one = absurd all
 AreFirstGiven-push (q ∷ rounds) (c ∷ bs) r b all one = (all.0, AreFirstGiven-push rounds bs r b all.1 one)
 
-AreHandled-push : (s : Scene) (before rounds : List Giveback) (r : Giveback) → AreHandled s before rounds → IsHandled (acts s (before ++ rounds) r.urb r.status (moved_in s r)) r.outcome → AreHandled s before (rounds ++ r ∷ [])
+pub AreHandled-push : (s : Scene) (before rounds : List Giveback) (r : Giveback) → AreHandled s before rounds → IsHandled (acts s (before ++ rounds) r.urb r.status (moved_in s r)) r.outcome → AreHandled s before (rounds ++ r ∷ [])
 AreHandled-push s before [] r all one = (subst (λ l. IsHandled (acts s l r.urb r.status (moved_in s r)) r.outcome) (append-nil before) one, tt)
 AreHandled-push s before (q ∷ rounds) r all one = (all.0, AreHandled-push s (before ++ q ∷ []) rounds r all.1 (subst (λ l. IsHandled (acts s l r.urb r.status (moved_in s r)) r.outcome) (sym (append_assoc before (q ∷ []) rounds)) one))
 
@@ -188,16 +188,7 @@ module _ (s : Scene) (f : Progress) (r : Giveback) where
 
   module _ (ready : CanReturn) (old : Serves s f) where
     back_replies : (e : ℕ) → replies_in (rounds_at s e g.rounds) ≡ next_due s e [] (asked_of s e g.rounds)
-    back_replies e = dite (ℕ_discrete (home s r.urb) e)
-        (λ is.
-        let rounds : rounds_at s e g.rounds ≡ rounds_at s e f.rounds ++ r ∷ [] = rounds-push e ∙ ap (λ b. rounds_at s e f.rounds ++ cond b (r ∷ []) []) (eq-eqb (home s r.urb) e is) in
-        let joined : replies_in (rounds_at s e g.rounds) ≡ replies_in (rounds_at s e f.rounds) ++ r.replies
-        = ap replies_in rounds ∙ (flat_map-append (λ (r : Giveback). r.replies) (rounds_at s e f.rounds) (r ∷ []) ∙ ap (λ l. replies_in (rounds_at s e f.rounds) ++ l) (append-nil r.replies)) in
-        let due : r.replies ≡ next_due s e (asked_of s e f.rounds) (asked_in s r) = subst (λ (e : ℕ). r.replies ≡ next_due s e (asked_of s e f.rounds) (asked_in s r)) is ready.replies in
-        joined ∙ ((λ i. old.replies e i ++ due i) ∙ (sym (due-append s e [] (asked_of s e f.rounds) (asked_in s r)) ∙ ap (next_due s e []) (sym (asked_own e is)))))
-        (λ off.
-        let rounds : rounds_at s e g.rounds ≡ rounds_at s e f.rounds = rounds-push e ∙ (ap (λ b. rounds_at s e f.rounds ++ cond b (r ∷ []) []) (ne_eqb (home s r.urb) e off) ∙ append-nil (rounds_at s e f.rounds)) in
-        ap replies_in rounds ∙ (old.replies e ∙ ap (next_due s e []) (sym (asked_else e off))))
+    back_replies = replies-push s f.rounds r old.replies ready.replies
 
     abbrev after_pending : ℕ → List ℕ
     after_pending e = pending_of (machine_of s) g.history e

@@ -1,16 +1,23 @@
 -- What is due at an endpoint, piece by piece.
-use Rattle.std.proofs.Common.{ℕ, suc, ◌≡◌, ◌+◌, ◌-◌, ◌≤◌, Bool, true, false, cond, Option, List, [], ◌∷◌, ◌++◌, length, map, take, replicate, refl, sym, ap, ◌∙◌, arith, append_assoc, append-nil, length-append}
+use Rattle.std.proofs.Common.{ℕ, suc, ◌≡◌, ◌≢◌, ◌+◌, ◌-◌, ◌≤◌, Bool, true, false, cond, eqb, eq-eqb, ne_eqb, Option, List, [], ◌∷◌, ◌++◌, length, map, take, replicate, refl, sym, ap, ◌∙◌, subst, arith, append_assoc, append-nil, length-append}
 use Rattle.std.specs.Prelude.{slice_get}
+use Rattle.std.specs.List.{flat_map}
 use Rattle.std.proofs.Math.Seq.{take-append_seam}
 use Rattle.std.proofs.lemmas.List.{map-append, length-replicate, replicate-append-replicate}
+use Rattle.std.proofs.lemmas.List.Elements.{filter-append}
+use Rattle.std.proofs.lemmas.Grind.{flat_map-append}
+use mathlib.Core.Logic.{dite}
+use native.Mathlib.Decide.{ℕ_discrete}
 use Rattle.usb_xfer.specs.Replies.{Reply, Question}
 use Rattle.usb_device.specs.Device.{Call}
 use Rattle.usb_device.specs.Replied.{call_of}
 use Rattle.usb_scene.specs.declared.scene.Scene.{Scene}
 use Rattle.usb_scene.specs.declared.scene.SceneDevice.{SceneDevice}
 use Rattle.usb_prepare.specs.Ends.{shape_at}
+use Rattle.usb_prepare.specs.Layout.{home}
 use Rattle.usb_trace.specs.Script.{replies_from}
 use Rattle.usb_trace.specs.Plan.{script_of}
+use Rattle.usb_trace.specs.Run.{Giveback, rounds_at, replies_in, asked_in, asked_of}
 use Rattle.usb_trace.specs.Due.{is_ruled, heard_before, answer_to, answers_from, next_due}
 use Rattle.usb_trace.proofs.Scripts.{replies-append, length-replies}
 
@@ -70,3 +77,29 @@ module _ (s : Scene) (e : ℕ) where
       let parts : next_due s e asked (replicate n q) ≡ front ++ back = ap (next_due s e asked) split ∙ due-append asked (replicate k q) (replicate (n - k) q) in
       let long : k ≡ length front = sym (length-due asked (replicate k q) ∙ length-replicate k q) in
       (λ i. take (long i) (parts i)) ∙ take-append_seam front back
+
+-- the replies of each endpoint are still those that were due first after one giveback more, whose replies are due next
+module _ (s : Scene) (rounds : List Giveback) (r : Giveback) (old : (e : ℕ) → replies_in (rounds_at s e rounds) ≡ next_due s e [] (asked_of s e rounds))
+    (due : r.replies ≡ next_due s (home s r.urb) (asked_of s (home s r.urb) rounds) (asked_in s r)) where
+  abbrev longer : List Giveback
+  longer = rounds ++ r ∷ []
+
+  at : (e : ℕ) → rounds_at s e longer ≡ rounds_at s e rounds ++ cond (eqb (home s r.urb) e) (r ∷ []) []
+  at e = filter-append (λ (r : Giveback). eqb (home s r.urb) e) rounds (r ∷ [])
+
+  at_own : (e : ℕ) → home s r.urb ≡ e → rounds_at s e longer ≡ rounds_at s e rounds ++ r ∷ []
+  at_own e is = at e ∙ ap (λ b. rounds_at s e rounds ++ cond b (r ∷ []) []) (eq-eqb (home s r.urb) e is)
+
+  at_else : (e : ℕ) → home s r.urb ≢ e → rounds_at s e longer ≡ rounds_at s e rounds
+  at_else e off = at e ∙ (ap (λ b. rounds_at s e rounds ++ cond b (r ∷ []) []) (ne_eqb (home s r.urb) e off) ∙ append-nil (rounds_at s e rounds))
+
+  pub replies-push : (e : ℕ) → replies_in (rounds_at s e longer) ≡ next_due s e [] (asked_of s e longer)
+  replies-push e = dite (ℕ_discrete (home s r.urb) e)
+      (λ is.
+      let joined : replies_in (rounds_at s e longer) ≡ replies_in (rounds_at s e rounds) ++ r.replies
+      = ap replies_in (at_own e is) ∙ (flat_map-append (λ (r : Giveback). r.replies) (rounds_at s e rounds) (r ∷ []) ∙ ap (λ l. replies_in (rounds_at s e rounds) ++ l) (append-nil r.replies)) in
+      let asked : asked_of s e longer ≡ asked_of s e rounds ++ asked_in s r
+      = ap (flat_map (asked_in s)) (at_own e is) ∙ (flat_map-append (asked_in s) (rounds_at s e rounds) (r ∷ []) ∙ ap (λ l. asked_of s e rounds ++ l) (append-nil (asked_in s r))) in
+      let here : r.replies ≡ next_due s e (asked_of s e rounds) (asked_in s r) = subst (λ (e : ℕ). r.replies ≡ next_due s e (asked_of s e rounds) (asked_in s r)) is due in
+      joined ∙ ((λ i. old e i ++ here i) ∙ (sym (due-append s e [] (asked_of s e rounds) (asked_in s r)) ∙ ap (next_due s e []) (sym asked))))
+      (λ off. ap replies_in (at_else e off) ∙ (old e ∙ ap (λ (l : List Giveback). next_due s e [] (flat_map (asked_in s) l)) (sym (at_else e off))))

@@ -1,0 +1,11 @@
+pub mod Lists
+pub mod Accepting
+pub mod Quiet
+pub mod Gives
+pub mod Firsts
+pub mod Giving
+pub mod Threads
+pub mod Closed
+pub mod Together
+pub mod Back
+pub mod Going

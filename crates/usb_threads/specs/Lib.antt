@@ -1,0 +1,6 @@
+pub mod Passes
+pub mod MainPass
+pub mod Scripts
+pub mod Serving
+pub mod Promises
+pub mod NextCall

@@ -1,0 +1,9 @@
+//! What each part of a run in threads promises, and the laws that make one run of these promises.
+#![tactic(auto)]
+
+mod laws;
+
+pub use laws::{
+    a_run_in_line_order_is_one_of_these, a_script_may_go_on, a_turn_keeps_the_promise,
+    promises_make_a_run, what_was_sent_stands,
+};
