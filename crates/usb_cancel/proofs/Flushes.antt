@@ -5,7 +5,7 @@ use Rattle.usb_types.specs.declared.errno.Code.{Code}
 use Rattle.usb_types.specs.declared.urb.UrbId.{UrbId}
 use Rattle.usb_types.specs.declared.urb.Flag.{Flag as FlagName}
 use Rattle.usb_types.specs.declared.urb.Flag.TheVariants.{Gone, Off, Down}
-use Rattle.usb_types.specs.declared.urb.Why.TheVariants.{Shutdown}
+use Rattle.usb_types.specs.declared.urb.Why.{Why}
 use Rattle.usb_machine.specs.declared.event.Event.TheVariants.{Quiet, Claim, Flag}
 use Rattle.usb_machine.specs.declared.transfer.Transfer.{Transfer}
 use Rattle.usb_machine.specs.declared.entry.Entry.{Entry}
@@ -35,10 +35,10 @@ pub record Flagging (f : FlagName) (p q : Known) (all rest : List ℕ) : Type 0 
   pub flagged : (v : ℕ) → Has all v → (has_flag f (held_of q.mine v).flags ≡ true) ⊎ Has rest v
 
 -- the rest are still to be marked
-pub record Marking (p q : Known) (all rest : List ℕ) : Type 0 where
+pub record Marking (why : Why) (p q : Known) (all rest : List ℕ) : Type 0 where
   pub done : List Entry
   pub grown : Grown p q done
-  pub parts : (cs : List Code) → length cs ≡ length rest → (bs : List Code) × (length bs ≡ length all) × (done ++ marks_of p.number Shutdown rest cs ≡ marks_of p.number Shutdown all bs)
+  pub parts : (cs : List Code) → length cs ≡ length rest → (bs : List Code) × (length bs ≡ length all) × (done ++ marks_of p.number why rest cs ≡ marks_of p.number why all bs)
   pub held : (v : ℕ) → held_of q.mine v ≡ held_of p.mine v
 
 -- the rest are still to be waited for
@@ -68,7 +68,7 @@ has_if : (f : FlagName) (b : Bool) (x : Flags) → has_flag f x ≡ true → has
 has_if f true x h = set_is f x
 has_if f false x h = h
 
-apart_eqb : (u v : ℕ) (us : List ℕ) → (Has us u → ⊥) → Has us v → eqb u v ≡ false
+pub apart_eqb : (u v : ℕ) (us : List ℕ) → (Has us u → ⊥) → Has us v → eqb u v ≡ false
 apart_eqb u v us off h = ne_eqb u v (λ e. off (subst (Has us) (sym e) h))
 
 pub flag_next : (f : FlagName) (p q r : Known) (all rest : List ℕ) (u : ℕ) → Flagging f p q all (u ∷ rest) → Grown q r (plain_entry q.number (Flag record { 0 = u } f) ∷ []) → Flagging f p r all rest
@@ -94,21 +94,21 @@ either_same : (b : Bool) (d : Held) → cond b d d ≡ d
 either_same true d = refl
 either_same false d = refl
 
-pub mark_next : (p q r : Known) (all rest : List ℕ) (u : ℕ) (a : Code) → Marking p q all (u ∷ rest) → Grown q r (mark_entry q.number Shutdown u a ∷ []) → Marking p r all rest
-mark_next p q r all rest u a l step =
-    let x : Entry = mark_entry q.number Shutdown u a in
-    let same : x ≡ mark_entry p.number Shutdown u a = ap (λ n. mark_entry n Shutdown u a) l.grown.number in
+pub mark_next : (why : Why) (p q r : Known) (all rest : List ℕ) (u : ℕ) (a : Code) → Marking why p q all (u ∷ rest) → Grown q r (mark_entry q.number why u a ∷ []) → Marking why p r all rest
+mark_next why p q r all rest u a l step =
+    let x : Entry = mark_entry q.number why u a in
+    let same : x ≡ mark_entry p.number why u a = ap (λ n. mark_entry n why u a) l.grown.number in
     record {
       done = l.done ++ x ∷ [];
       grown = grown_more p q r l.done (x ∷ []) l.grown step;
       parts = λ cs size.
           let t = l.parts (a ∷ cs) (omega (arith, size)) in
-          (t.0, t.1, append_assoc l.done (x ∷ []) (marks_of p.number Shutdown rest cs) ∙ (ap (λ y. l.done ++ y ∷ marks_of p.number Shutdown rest cs) same ∙ t.2));
+          (t.0, t.1, append_assoc l.done (x ∷ []) (marks_of p.number why rest cs) ∙ (ap (λ y. l.done ++ y ∷ marks_of p.number why rest cs) same ∙ t.2));
       held = λ v. ap (λ m. held_of m v) step.mine ∙ (held_of-snoc q.mine x v ∙ (either_same (eqb u v) (held_of q.mine v) ∙ l.held v));
     }
 
 -- after a Quiet and a Claim of u what is held of v is the same, and of u it is kept where it is held
-held_claims : (m : List Entry) (n u v : ℕ) (rest : Option ℕ) → held_of (m ++ claim_entries n u rest) v ≡ cond (eqb u v) (record (held_of m v) { kept = holds_any (held_of m v) }) (held_of m v)
+pub held_claims : (m : List Entry) (n u v : ℕ) (rest : Option ℕ) → held_of (m ++ claim_entries n u rest) v ≡ cond (eqb u v) (record (held_of m v) { kept = holds_any (held_of m v) }) (held_of m v)
 held_claims m n u v rest = fold-append (λ d y. cond (is_of v y.event) (held_after d y.event) d) nothing_held m (claim_entries n u rest) ∙ either (eqb u v) (held_of m v)
   where
     either : (b : Bool) (d : Held) → cond b (held_after (cond b (held_after d (Quiet record { 0 = u })) d) (Claim record { 0 = u })) (cond b (held_after d (Quiet record { 0 = u })) d) ≡ cond b (record d { kept = holds_any d }) d
@@ -132,7 +132,7 @@ take_set [] i x lt = absurd (omega arith)
 take_set (y ∷ ys) zero x lt = refl
 take_set (y ∷ ys) (suc i) x lt = ap (λ k. take k (y ∷ set ys i x)) (suc_more i) ∙ ap (λ l. y ∷ l) (take_set ys i x (omega arith))
 
-ends_more : (h done more : List Entry) → EndsWith h more → EndsWith h (done ++ more)
+pub ends_more : (h done more : List Entry) → EndsWith h more → EndsWith h (done ++ more)
 ends_more h done more e = record { before = e.before; others = done ++ e.others; last = e.last; ends = e.ends; entries = ap (λ l. done ++ l) e.entries ∙ sym (append_assoc done e.others (e.last ∷ [])) }
 
 pub settle_next : (g : Machine) (p q r : Known) (all rest : List ℕ) (u i : ℕ) (rests : List (Option Transfer)) (t : Option Transfer) → i < length rests → u ≡ get_or all i 0 → Settling g p q all (u ∷ rest) i rests → Fresh g q r (claim_entries q.number u (number_of t)) → HasClaimed r.seen r.number u t → Settling g p r all rest (i + 1) (set rests i t)
@@ -202,20 +202,20 @@ get_ids (u ∷ us) (suc i) d lt = get_ids us i d (omega arith)
 pub flag_start : (f : FlagName) (p : Known) (all : List ℕ) → AreUnflagged f p.mine all → AreApart all → Flagging f p p all all
 flag_start f p all unset apart = record { done = []; grown = grown_none p; parts = refl; unset = unset; apart = apart; flagged = λ v h. inr h }
 
-pub mark_start : (p : Known) (all : List ℕ) → Marking p p all all
-mark_start p all = record { done = []; grown = grown_none p; parts = λ cs size. (cs, size, refl); held = λ v. refl }
+pub mark_start : (why : Why) (p : Known) (all : List ℕ) → Marking why p p all all
+mark_start why p all = record { done = []; grown = grown_none p; parts = λ cs size. (cs, size, refl); held = λ v. refl }
 
 pub settle_start : (g : Machine) (p : Known) (all : List ℕ) (rests : List (Option Transfer)) → AreHeld p.mine all → Settling g p p all all 0 rests
 settle_start g p all rests held = record { done = []; grown = grown_none p; parts = λ rs size. refl; held = held; kept = λ v h. inr h; last = inl refl; claims = λ j lt. absurd (omega arith) }
 
-left : {A B : Type 0} → A ⊎ B → (B → ⊥) → A
+pub left : {A B : Type 0} → A ⊎ B → (B → ⊥) → A
 left t off = ⊎_elim (λ a. a) (λ b. absurd (off b)) t
 
 pub flag_end : (f : FlagName) (p q : Known) (all : List ℕ) → Flagging f p q all [] → Grown p q (flags_of p.number f all) × AreFlagged f q.mine all
 flag_end f p q all l = (subst (Grown p q) (sym (append-nil l.done) ∙ l.parts) l.grown, λ v h. left (l.flagged v h) (λ b. b))
 
-pub mark_end : (p q : Known) (all : List ℕ) → Marking p q all [] → Marked p q all
-mark_end p q all l = let t = l.parts [] refl in record { answers = t.0; each = t.1; grown = subst (Grown p q) (sym (append-nil l.done) ∙ t.2) l.grown }
+pub mark_end : (why : Why) (p q : Known) (all : List ℕ) → Marking why p q all [] → Marked why p q all
+mark_end why p q all l = let t = l.parts [] refl in record { answers = t.0; each = t.1; grown = subst (Grown p q) (sym (append-nil l.done) ∙ t.2) l.grown }
 
 pub settle_end : (g : Machine) (p q : Known) (all : List ℕ) (i : ℕ) (rests : List (Option Transfer)) → length rests ≤ i → Settling g p q all [] i rests
     → Grown p q (claims_of p.number all (numbers_of rests)) × ((i ≡ 0) ⊎ (Sound g q × EndsWith q.seen (claims_of p.number all (numbers_of rests)))) × AreKept q.mine all

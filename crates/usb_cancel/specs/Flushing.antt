@@ -3,7 +3,7 @@ use Rattle.std.specs.Prelude.{◌≡◌, ℕ, ◌⊎◌, true, false, List, [], 
 use Rattle.usb_types.specs.declared.errno.Code.{Code}
 use Rattle.usb_types.specs.declared.urb.UrbId.{UrbId}
 use Rattle.usb_types.specs.declared.urb.Flag.{Flag as FlagName}
-use Rattle.usb_types.specs.declared.urb.Why.TheVariants.{Shutdown}
+use Rattle.usb_types.specs.declared.urb.Why.{Why}
 use Rattle.usb_machine.specs.declared.event.Event.TheVariants.{Flag}
 use Rattle.usb_machine.specs.declared.transfer.Transfer.{Transfer}
 use Rattle.usb_machine.specs.declared.entry.Entry.{Entry}
@@ -47,11 +47,11 @@ AreHeld m us = (v : ℕ) → Has us v → holds_any (held_of m v) ≡ true
 abbrev pub AreKept : List Entry → List ℕ → Type 0
 AreKept m us = (v : ℕ) → Has us v → keeps m v ≡ true
 
--- the Marks of all were added, with some answers
-pub record Marked (p q : Known) (us : List ℕ) : Type 0 where
+-- the Marks of all were added with this reason, and with some answers
+pub record Marked (why : Why) (p q : Known) (us : List ℕ) : Type 0 where
   pub answers : List Code
   pub each : length answers ≡ length us
-  pub grown : Grown p q (marks_of p.number Shutdown us answers)
+  pub grown : Grown p q (marks_of p.number why us answers)
 
 -- the numbers of what was claimed
 abbrev pub numbers_of : List (Option Transfer) → List (Option ℕ)

@@ -2,7 +2,6 @@
 ghost use Rattle.std.specs.Prelude.{◌≡◌, ℕ, ◌<◌, ◌⊎◌, List, [], ◌∷◌, true, Some, None, All, length, get_or};
 ghost use Rattle.usb_types.specs.declared.errno.Code.{Code};
 ghost use Rattle.usb_types.specs.declared.errno.Code.TheVariants.{Fault};
-ghost use Rattle.usb_types.specs.declared.urb.Why.TheVariants.{Shutdown};
 ghost use Rattle.usb_machine.specs.declared.event.Event.TheVariants.{Quiet, Claim};
 ghost use Rattle.usb_machine.specs.declared.event.Answer.TheVariants.{Number};
 ghost use Rattle.usb_machine.specs.Calls.{entry, plain_entry, mark_entry, claim_entries, claims_of, flush_entries};
@@ -18,15 +17,15 @@ use usb_machine::{Host, HubToken, Token, Transfer};
 use usb_types::{Errno, Flag, UrbId, Why};
 
 /// Unlinks the URB by the hub's own pass.
-fn mark<H: Host, R: Wait>(rt: &R, host: &H, hub: &mut H::Hub, urb: UrbId) -> Errno
+fn mark<H: Host, R: Wait>(rt: &R, host: &H, hub: &mut H::Hub, urb: UrbId, why: Why) -> Errno
     requires here { H.is_of host.now (H.Hub.own hub.old) }
     requires whole { IsWholeHub (H.machine host.now) (H.known (H.Hub.own hub.old)) (H.Hub.flags hub.old) (H.Hub.has_room hub.old) }
     requires urb { IsUrb (H.machine host.now) urb.0 }
     ensures here { H.is_of host.now (H.Hub.own hub.new) }
     ensures whole { IsWholeHub (H.machine host.now) (H.known (H.Hub.own hub.new)) (H.Hub.flags hub.new) (H.Hub.has_room hub.new) }
-    ensures fresh { Fresh (H.machine host.now) (H.known (H.Hub.own hub.old)) (H.known (H.Hub.own hub.new)) (mark_entry (H.known (H.Hub.own hub.old)).number Shutdown urb.0 (Fault result) ∷ []) }
+    ensures fresh { Fresh (H.machine host.now) (H.known (H.Hub.own hub.old)) (H.known (H.Hub.own hub.new)) (mark_entry (H.known (H.Hub.own hub.old)).number why urb.0 (Fault result) ∷ []) }
 {
-    host.unlink(rt, hub.pass(), urb, Why::Shutdown)
+    host.unlink(rt, hub.pass(), urb, why)
 }
 
 /// Waits until the hub's own pass has seen the URB quiet.
@@ -94,17 +93,23 @@ pub(crate) fn flag_all<H: Host, R: Wait>(
 }
 
 /// Unlinks all URBs, in order.
-pub(crate) fn mark_all<H: Host, R: Wait>(rt: &R, host: &H, hub: &mut H::Hub, urbs: &[UrbId])
+pub(crate) fn mark_all<H: Host, R: Wait>(
+    rt: &R,
+    host: &H,
+    hub: &mut H::Hub,
+    urbs: &[UrbId],
+    why: Why,
+)
     requires here { H.is_of host.now (H.Hub.own hub.old) }
     requires whole { IsWholeHub (H.machine host.now) (H.known (H.Hub.own hub.old)) (H.Hub.flags hub.old) (H.Hub.has_room hub.old) }
     requires urbs { All (λ u. IsUrb (H.machine host.now) u.0) urbs.now }
     ensures here { H.is_of host.now (H.Hub.own hub.new) }
     ensures whole { IsWholeHub (H.machine host.now) (H.known (H.Hub.own hub.new)) (H.Hub.flags hub.new) (H.Hub.has_room hub.new) }
-    ensures marked { Marked (H.known (H.Hub.own hub.old)) (H.known (H.Hub.own hub.new)) (ids urbs.now) }
+    ensures marked { Marked why (H.known (H.Hub.own hub.old)) (H.known (H.Hub.own hub.new)) (ids urbs.now) }
     ensures held { (v : ℕ) → held_of (H.known (H.Hub.own hub.new)).mine v ≡ held_of (H.known (H.Hub.own hub.old)).mine v }
 {
     for urb in urbs {
-        mark(rt, host, hub, *urb);
+        mark(rt, host, hub, *urb, why);
     }
 }
 
@@ -156,6 +161,6 @@ pub fn flush<H: Host, R: Wait>(
     ensures kept { AreKept (H.known (H.Hub.own hub.new)).mine (ids urbs.now) }
 {
     flag_all(rt, host, hub, urbs, flag);
-    mark_all(rt, host, hub, urbs);
+    mark_all(rt, host, hub, urbs, Why::Shutdown);
     settle_all(rt, host, hub, urbs, rests);
 }

@@ -9,4 +9,4 @@ invariant-loop-urb g l =
     let known = g.H.Host.known in
     let own = g.H.Hub.Token.own in
     g.H.Host.is_of l.host (own l.hub) × IsWholeHub (g.H.Host.machine l.host) (known (own l.hub)) (g.H.Hub.HubToken.flags l.hub) (g.H.Hub.HubToken.has_room l.hub)
-    × Marking (known (own l.fn.hub)) (known (own l.hub)) (ids l.urbs) (ids (drop l.urb-index l.urbs))
+    × Marking l.why (known (own l.fn.hub)) (known (own l.hub)) (ids l.urbs) (ids (drop l.urb-index l.urbs))
