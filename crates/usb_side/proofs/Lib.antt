@@ -1,3 +1,4 @@
+pub mod Started
 pub mod Knowing
 pub mod Calls
 pub mod Over

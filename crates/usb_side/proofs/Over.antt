@@ -1,40 +1,26 @@
 -- What stays over a call of the server, by the entries that it makes.
-use Rattle.std.proofs.Common.{◌≡◌, ◌≢◌, ℕ, ◌<◌, Bool, true, false, cond, eqb, Option, Some, None, List, [], ◌∷◌, ◌++◌, sym, refl, ap, ◌∙◌, subst, arith, append_assoc, append-nil, eq-eqb, ne_eqb, true≢false, fold, Result, Ok, Err}
-use Rattle.std.proofs.lemmas.List.{append_cancel_left}
-use Rattle.std.proofs.lemmas.List.Elements.{filter-append}
+use Rattle.std.proofs.Common.{◌≡◌, ℕ, Bool, true, false, cond, Option, Some, None, List, [], ◌∷◌, sym, refl, ap, ◌∙◌, append-nil, fold, Result, Ok, Err}
 use Rattle.std.proofs.lemmas.List.Sums.{fold-append}
-use mathlib.Core.Logic.{dite}
-use native.Mathlib.Decide.{ℕ_discrete}
 use Rattle.usb_types.specs.declared.errno.Errno.{Errno}
 use Rattle.usb_types.specs.declared.errno.Code.{Code}
 use Rattle.usb_machine.specs.declared.entry.TheConstants.{SERVER}
 use Rattle.usb_machine.specs.declared.entry.Entry.{Entry}
-use Rattle.usb_machine.specs.declared.event.Event.{Event}
-use Rattle.usb_machine.specs.declared.event.Event.TheVariants.{Submit, Link, Take, Mark, Finish, Give, Rest, End, Reject, Withdraw, Quiet, Claim, Flag, Unflag}
+use Rattle.usb_machine.specs.declared.event.Event.TheVariants.{Submit, Link, Rest}
 use Rattle.usb_machine.specs.declared.event.Answer.{Answer}
 use Rattle.usb_machine.specs.declared.event.Answer.TheVariants.{Code as Status}
-use Rattle.usb_machine.specs.declared.state.UrbState.{UrbState}
-use Rattle.usb_machine.specs.declared.state.Mark.TheVariants.{Clear}
 use Rattle.usb_machine.specs.declared.transfer.Transfer.{Transfer}
-use Rattle.usb_machine.specs.State.{after, accepted, unlinks, finishes, is_zero}
-use Rattle.usb_machine.specs.History.{Machine, state_of, is_of, pending_of, pending_after, sent_of}
-use Rattle.usb_machine.specs.Parts.{part_of}
-use Rattle.usb_machine.specs.Legal.{May, Follows, IsLegal}
-use Rattle.usb_machine.specs.Laws.{is_give, NoneGives}
+use Rattle.usb_machine.specs.State.{is_zero}
+use Rattle.usb_machine.specs.History.{Machine, pending_of, pending_after}
 use Rattle.usb_machine.specs.Calls.{entry, plain_entry, submit_entries}
-use Rattle.usb_machine.proofs.Steps.{state_of-snoc}
-use Rattle.usb_machine.proofs.Prefixes.{follows_before}
 use Rattle.usb_machine.specs.Fresh.{Known, Sound, Grown, Fresh}
 use Rattle.usb_machine.specs.HostCalls.{Submitted, answer_of_submit}
 use Rattle.usb_machine.specs.declared.host_answers.Refused.{Refused}
-use Rattle.usb_machine.specs.Tokens.{gives_of, gives_after, is_finished}
+use Rattle.usb_machine.specs.Tokens.{gives_of, gives_after}
 use Rattle.usb_serve.specs.Handlers.{StillRuns, refusal_in}
 use Rattle.usb_types.specs.declared.urb.UrbId.{UrbId}
 use Rattle.usb_machine.specs.HostCalls.{fault_at, shape_of}
 use Rattle.usb_side.specs.Side.{IsWholeSide, side_runs, SideSubmits, SubmitsOr}
-use Rattle.usb_machine.specs.State.{is_clear}
-use Rattle.usb_machine.proofs.SentStands.{sent_stands, refused}
-use Rattle.usb_machine.proofs.Over.{AllAre, all_append, NoGive, NoEnd, NoFinish, runs_over}
+use Rattle.usb_machine.proofs.Over.{AllAre, NoEnd, runs_over}
 
 -- a handler's calls
 module _ (g : Machine) (p q : Known) (P Q : Type 0) (server : p.number ≡ SERVER) (bottom : g.bottom ≡ SERVER) (sound : Sound g p) (whole : Q) where
@@ -93,10 +79,10 @@ submit_whole g here here_now p q pending pending_now given given_now room room_n
     }
 
 -- a submit, by why it was refused
-pub submit_told : (g : Machine) (p q : Known) (u : UrbId) (t : Transfer) (r : Result (Unit {0}) Refused) → Submitted g p q u.0 t (fault_at (shape_of g u.0) t) r → SideSubmits g g p q u t (refusal_in r)
-submit_told g p q u t r s = record { same = refl; submitted = go (fault_at (shape_of g u.0) t) r s }
+pub submit_told : {X : Type 0} (machine_of : X → Machine) (x : X) (p q : Known) (u : UrbId) (t : Transfer) (r : Result (Unit {0}) Refused) → Submitted (machine_of x) p q u.0 t (fault_at (shape_of (machine_of x) u.0) t) r → SideSubmits machine_of x x p q u t (refusal_in r)
+submit_told machine_of x p q u t r s = record { same = refl; submitted = go (fault_at (shape_of (machine_of x) u.0) t) r s }
   where
-    go : (fault : Option Errno) (r : Result (Unit {0}) Refused) → Submitted g p q u.0 t fault r → SubmitsOr g p q u.0 t fault (refusal_in r)
+    go : (fault : Option Errno) (r : Result (Unit {0}) Refused) → Submitted (machine_of x) p q u.0 t fault r → SubmitsOr (machine_of x) p q u.0 t fault (refusal_in r)
     go (Some errno) (Ok a) s = absurd s.0
     go (Some errno) (Err e) s = (ap Some s.0, s.1)
     go None (Ok a) s = s

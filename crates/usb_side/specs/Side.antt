@@ -35,23 +35,23 @@ side_knows g p given whole settled = record {
   is_finished = λ u. is_finished (state_of p.seen u).mark ≡ true;
 }
 
--- the calls, by the machine and the pass before and after
-pub record SideTakes (f g : Machine) (p q : Known) (ep : ℕ) (r : Option (UrbId × Transfer)) (cause : Type 0) : Type 0 where
+-- the calls, by the host and the server's pass before and after. The side stays over its host
+pub record SideTakes {X : Type 0} (machine : X → Machine) (f g : X) (p q : Known) (ep : ℕ) (r : Option (UrbId × Transfer)) (cause : Type 0) : Type 0 where
   pub same : g ≡ f
-  pub took : Took f p q ep r cause
+  pub took : Took (machine f) p q ep r cause
 
-pub record SideLooks (f g : Machine) (p q : Known) (u : UrbId) (look : Look) (soon : Type 0) : Type 0 where
+pub record SideLooks {X : Type 0} (machine : X → Machine) (f g : X) (p q : Known) (u : UrbId) (look : Look) (soon : Type 0) : Type 0 where
   pub same : g ≡ f
-  pub looked : Looked f p q
+  pub looked : Looked (machine f) p q
   pub finds : Finds (state_of q.seen u.0).mark look soon
 
-pub record SideFinishes (f g : Machine) (p q : Known) (u : UrbId) (code : Code) (done : Bool) : Type 0 where
+pub record SideFinishes {X : Type 0} (machine : X → Machine) (f g : X) (p q : Known) (u : UrbId) (code : Code) (done : Bool) : Type 0 where
   pub same : g ≡ f
-  pub fresh : Fresh f p q (entry p.number (Finish u code) (Truth done) None ∷ [])
+  pub fresh : Fresh (machine f) p q (entry p.number (Finish u code) (Truth done) None ∷ [])
 
-pub record SideGives (f g : Machine) (p q : Known) (u : UrbId) (t : Transfer) (told : Told) : Type 0 where
+pub record SideGives {X : Type 0} (machine : X → Machine) (f g : X) (p q : Known) (u : UrbId) (t : Transfer) (told : Told) : Type 0 where
   pub same : g ≡ f
-  pub fresh : Fresh f p q (entry p.number (Give u) (Status told.code) None ∷ [])
+  pub fresh : Fresh (machine f) p q (entry p.number (Give u) (Status told.code) None ∷ [])
   pub urb : told.urb ≡ u.0
   pub transfer : told.transfer ≡ Some t
 
@@ -63,19 +63,23 @@ side_runs g p whole = record {
   has_home = HasHome g;
 }
 
-pub record SideRests (f g : Machine) (p q : Known) (u : UrbId) (t : Transfer) : Type 0 where
+-- the machine of a host that stands with another value
+abbrev pub machine_in : {X Y : Type 0} → (X → Machine) → X × Y → Machine
+machine_in machine pair = machine pair.0
+
+pub record SideRests {X : Type 0} (machine : X → Machine) (f g : X) (p q : Known) (u : UrbId) (t : Transfer) : Type 0 where
   pub same : g ≡ f
-  pub fresh : Fresh f p q (entry p.number (Rest u t.number) Nothing (Some t) ∷ [])
+  pub fresh : Fresh (machine f) p q (entry p.number (Rest u t.number) Nothing (Some t) ∷ [])
 
 -- a shape's fault refuses without an event, or the answer is that of the call's Submit
 abbrev pub SubmitsOr : Machine → Known → Known → ℕ → Transfer → Option Errno → Option Errno → Type 0
 SubmitsOr f p q u t (Some e) r = (r ≡ Some e) × Looked f p q
 SubmitsOr f p q u t None r = Fresh f p q (submit_entries p.number u t (code_in r))
 
-pub record SideSubmits (f g : Machine) (p q : Known) (u : UrbId) (t : Transfer) (r : Option Errno) : Type 0 where
+pub record SideSubmits {X : Type 0} (machine : X → Machine) (f g : X) (p q : Known) (u : UrbId) (t : Transfer) (r : Option Errno) : Type 0 where
   pub same : g ≡ f
-  pub submitted : SubmitsOr f p q u.0 t (fault_at (shape_of f u.0) t) r
+  pub submitted : SubmitsOr (machine f) p q u.0 t (fault_at (shape_of (machine f) u.0) t) r
 
-pub record SideEnds (f g : Machine) (p q : Known) (u : UrbId) : Type 0 where
+pub record SideEnds {X : Type 0} (machine : X → Machine) (f g : X) (p q : Known) (u : UrbId) : Type 0 where
   pub same : g ≡ f
-  pub fresh : Fresh f p q (plain_entry p.number (End u) ∷ [])
+  pub fresh : Fresh (machine f) p q (plain_entry p.number (End u) ∷ [])

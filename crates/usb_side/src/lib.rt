@@ -1,11 +1,13 @@
 //! A host with its server, as the controller's side and as the handlers' side.
 #![tactic(auto)]
 
+mod beginning;
 mod giving;
 mod handlers;
 mod side;
 mod step;
 
+pub use beginning::begin;
 pub use giving::give_back;
 pub use side::HostSide;
 pub use step::{one_step, turn_once};

@@ -47,13 +47,13 @@ impl<H: Serves, R: Wait> Side for HostSide<'_, H, R> {
 
     ghost knows = { λ s. side_knows (H.machine s.host.now) (H.known (H.Server.own s.server)) (H.Server.given s.server) (IsWholeSide (H.machine s.host.now) (H.is_of s.host.now (H.Server.own s.server)) (H.known (H.Server.own s.server)) (H.Server.pending s.server) (H.Server.given s.server) (H.Server.has_room s.server)) (H.is_settled s.host.now s.server) };
 
-    ghost takes = { λ s ep r z. SideTakes (H.machine s.host.now) (H.machine z.host.now) (H.known (H.Server.own s.server)) (H.known (H.Server.own z.server)) ep r (H.has_none s.host.now (H.Server.own s.server) (H.Server.own z.server) ep) };
+    ghost takes = { λ s ep r z. SideTakes H.machine s.host.now z.host.now (H.known (H.Server.own s.server)) (H.known (H.Server.own z.server)) ep r (H.has_none s.host.now (H.Server.own s.server) (H.Server.own z.server) ep) };
 
-    ghost looks = { λ s u look z. SideLooks (H.machine s.host.now) (H.machine z.host.now) (H.known (H.Server.own s.server)) (H.known (H.Server.own z.server)) u look (H.is_marked_soon s.host.now (H.Server.own s.server) (H.Server.own z.server) u.0) };
+    ghost looks = { λ s u look z. SideLooks H.machine s.host.now z.host.now (H.known (H.Server.own s.server)) (H.known (H.Server.own z.server)) u look (H.is_marked_soon s.host.now (H.Server.own s.server) (H.Server.own z.server) u.0) };
 
-    ghost finishes = { λ s u code done z. SideFinishes (H.machine s.host.now) (H.machine z.host.now) (H.known (H.Server.own s.server)) (H.known (H.Server.own z.server)) u code done };
+    ghost finishes = { λ s u code done z. SideFinishes H.machine s.host.now z.host.now (H.known (H.Server.own s.server)) (H.known (H.Server.own z.server)) u code done };
 
-    ghost gives = { λ s u t y z. SideGives (H.machine s.host.now) (H.machine z.host.now) (H.known (H.Server.own s.server)) (H.known (H.Server.own z.server)) u t (H.Given.told y) };
+    ghost gives = { λ s u t y z. SideGives H.machine s.host.now z.host.now (H.known (H.Server.own s.server)) (H.known (H.Server.own z.server)) u t (H.Given.told y) };
 
     fn take(&mut self, ep: u32) -> Option<(UrbId, Transfer)> {
         self.host.take(self.rt, &mut self.server, ep)

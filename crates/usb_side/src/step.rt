@@ -6,10 +6,11 @@ ghost use Rattle.usb_side.specs.Round.{TurnGave};
 ghost use Rattle.usb_side.specs.Handled.{Stepped};
 ghost use Rattle.usb_machine.specs.History.{HasHome};
 
+use crate::giving::give_back;
 use crate::side::HostSide;
 use std::sync::Wait;
 use usb_machine::Serves;
-use usb_serve::{Controller, Handler, Outcome, Turn, complete};
+use usb_serve::{Controller, Handler, Outcome, Turn};
 use usb_types::Memory;
 use usb_xfer::Device;
 
@@ -21,7 +22,7 @@ pub fn turn_once<H: Serves, R: Wait, D: Device>(
     requires room { H.Server.given side.old.server < 2 ^ 63 }
     requires agrees { Agrees (side_knows (H.machine side.old.host.now) (H.known (H.Server.own side.old.server)) (H.Server.given side.old.server) (IsWholeSide (H.machine side.old.host.now) (H.is_of side.old.host.now (H.Server.own side.old.server)) (H.known (H.Server.own side.old.server)) (H.Server.pending side.old.server) (H.Server.given side.old.server) (H.Server.has_room side.old.server)) (H.is_settled side.old.host.now side.old.server)) controller.old }
     ensures agrees { Agrees (side_knows (H.machine side.new.host.now) (H.known (H.Server.own side.new.server)) (H.Server.given side.new.server) (IsWholeSide (H.machine side.new.host.now) (H.is_of side.new.host.now (H.Server.own side.new.server)) (H.known (H.Server.own side.new.server)) (H.Server.pending side.new.server) (H.Server.given side.new.server) (H.Server.has_room side.new.server)) (H.is_settled side.new.host.now side.new.server)) controller.new }
-    ensures same { H.machine side.new.host.now ≡ H.machine side.old.host.now }
+    ensures same { side.new.host.now ≡ side.old.host.now }
     ensures gave { TurnGave (H.machine side.old.host.now) (H.known (H.Server.own side.old.server)) (H.known (H.Server.own side.new.server)) (option_map (λ y. H.Given.told y) result.given) }
 {
     controller.turn(side)
@@ -37,7 +38,7 @@ pub fn one_step<H: Serves, R: Wait, D: Device, K: Handler>(
     requires agrees { Agrees (side_knows (H.machine side.old.host.now) (H.known (H.Server.own side.old.server)) (H.Server.given side.old.server) (IsWholeSide (H.machine side.old.host.now) (H.is_of side.old.host.now (H.Server.own side.old.server)) (H.known (H.Server.own side.old.server)) (H.Server.pending side.old.server) (H.Server.given side.old.server) (H.Server.has_room side.old.server)) (H.is_settled side.old.host.now side.old.server)) controller.old }
     requires homes { (u : ℕ) → Contains (K.asks_with handler.old) u → HasHome (H.machine side.old.host.now) u }
     ensures agrees { Agrees (side_knows (H.machine side.new.host.now) (H.known (H.Server.own side.new.server)) (H.Server.given side.new.server) (IsWholeSide (H.machine side.new.host.now) (H.is_of side.new.host.now (H.Server.own side.new.server)) (H.known (H.Server.own side.new.server)) (H.Server.pending side.new.server) (H.Server.given side.new.server) (H.Server.has_room side.new.server)) (H.is_settled side.new.host.now side.new.server)) controller.new }
-    ensures same { H.machine side.new.host.now ≡ H.machine side.old.host.now }
+    ensures same { side.new.host.now ≡ side.old.host.now }
     ensures urbs { K.asks_with handler.new ≡ K.asks_with handler.old }
     ensures stepped { Stepped (H.machine side.old.host.now) K.completes (H.known (H.Server.own side.old.server)) (H.known (H.Server.own side.new.server)) handler.old result }
 {
@@ -47,6 +48,6 @@ pub fn one_step<H: Serves, R: Wait, D: Device, K: Handler>(
     } = turn_once(side, controller);
     match given {
         None => None,
-        Some(given) => Some(complete(side, given, handler)),
+        Some(given) => Some(give_back(side.rt, side.host, &mut side.server, given, handler)),
     }
 }

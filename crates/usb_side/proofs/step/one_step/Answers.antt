@@ -1,52 +1,42 @@
-use Rattle.std.proofs.Common.{◌≡◌, ◌<◌, sym, subst}
-use Rattle.std.specs.Prelude.{option_map}
-use Rattle.usb_machine.specs.History.{Machine, HasHome, state_of}
-use Rattle.usb_machine.specs.Fresh.{Known, Sound}
-use Rattle.usb_machine.specs.HostCalls.{IsUrb}
+use Rattle.std.proofs.Common.{sym, subst}
+use Rattle.std.specs.Prelude.{option_map, Some}
+use Rattle.usb_machine.specs.History.{Machine, HasHome}
+use Rattle.usb_machine.specs.Fresh.{Known}
 use Rattle.usb_machine.specs.Tokens.{Told}
 use Rattle.usb_side.specs.Round.{TurnGave, GaveBack}
+use Rattle.usb_side.specs.Handled.{Came}
 use Rattle.usb_side.proofs.Behind.{gave_home, gave_runs, gave_transfer}
-use Rattle.usb_side.proofs.Handling.{handler_so, handler_agrees, gave_of}
+use Rattle.usb_side.proofs.Handling.{came_agrees, gave_of}
 use Rattle.usb_side.proofs.step.one_step.Goals as goal
 
-pub complete-requires-clause-handles : goal.complete-requires-clause-handles
-complete-requires-clause-handles g c κs within =
+pub give_back-requires-clause-runs : goal.give_back-requires-clause-runs
+give_back-requires-clause-runs g c κs within =
     let m : Machine = g.H.Host.machine c.args.side.now.host.now in
     let p : Known = g.H.Host.known (g.H.Server.Token.own c.args.side.now.server) in
     let q : Known = g.H.Host.known (g.H.Server.Token.own c.turn_once-given.new.side.server) in
     let told : Told = g.H.Given.GivenBack.told c.in-Some.given in
     let back : GaveBack m p q told.urb told.code told.transfer = subst (λ r. TurnGave m p q (option_map (λ y. g.H.Given.GivenBack.told y) r)) c.in-Some.is c.turn_once-given.ensures.gave in
-    let same : g.H.Host.machine c.turn_once-given.new.side.host.now ≡ m = c.turn_once-given.ensures.same in
-    subst (λ k. IsUrb k told.urb × (0 < (state_of q.seen told.urb).handlers)) (sym same) (gave_runs m p q told.urb told.code told.transfer back)
+    (gave_runs m p q told.urb told.code told.transfer back).1
 
-pub complete-requires-clause-home : goal.complete-requires-clause-home
-complete-requires-clause-home g c κs within =
+pub give_back-requires-clause-home : goal.give_back-requires-clause-home
+give_back-requires-clause-home g c κs within =
     let m : Machine = g.H.Host.machine c.args.side.now.host.now in
     let p : Known = g.H.Host.known (g.H.Server.Token.own c.args.side.now.server) in
     let q : Known = g.H.Host.known (g.H.Server.Token.own c.turn_once-given.new.side.server) in
     let told : Told = g.H.Given.GivenBack.told c.in-Some.given in
     let back : GaveBack m p q told.urb told.code told.transfer = subst (λ r. TurnGave m p q (option_map (λ y. g.H.Given.GivenBack.told y) r)) c.in-Some.is c.turn_once-given.ensures.gave in
-    let same : g.H.Host.machine c.turn_once-given.new.side.host.now ≡ m = c.turn_once-given.ensures.same in
-    subst (λ k. HasHome k told.urb) (sym same) (gave_home m p q told.urb told.code told.transfer back)
+    subst (λ k. HasHome (g.H.Host.machine k) told.urb) (sym c.turn_once-given.ensures.same) (gave_home m p q told.urb told.code told.transfer back)
 
-pub complete-requires-clause-homes : goal.complete-requires-clause-homes
-complete-requires-clause-homes g c κs within =
-    let m : Machine = g.H.Host.machine c.args.side.now.host.now in
-    let p : Known = g.H.Host.known (g.H.Server.Token.own c.args.side.now.server) in
-    let q : Known = g.H.Host.known (g.H.Server.Token.own c.turn_once-given.new.side.server) in
-    let told : Told = g.H.Given.GivenBack.told c.in-Some.given in
-    let back : GaveBack m p q told.urb told.code told.transfer = subst (λ r. TurnGave m p q (option_map (λ y. g.H.Given.GivenBack.told y) r)) c.in-Some.is c.turn_once-given.ensures.gave in
-    let same : g.H.Host.machine c.turn_once-given.new.side.host.now ≡ m = c.turn_once-given.ensures.same in
-    λ u i. subst (λ k. HasHome k u) (sym same) (c.requires.homes u i)
+pub give_back-requires-clause-homes : goal.give_back-requires-clause-homes
+give_back-requires-clause-homes g c κs within = λ u i. subst (λ k. HasHome (g.H.Host.machine k) u) (sym c.turn_once-given.ensures.same) (c.requires.homes u i)
 
-pub complete-requires-clause-transfer : goal.complete-requires-clause-transfer
-complete-requires-clause-transfer g c κs within =
+pub give_back-requires-clause-transfer : goal.give_back-requires-clause-transfer
+give_back-requires-clause-transfer g c κs within =
     let m : Machine = g.H.Host.machine c.args.side.now.host.now in
     let p : Known = g.H.Host.known (g.H.Server.Token.own c.args.side.now.server) in
     let q : Known = g.H.Host.known (g.H.Server.Token.own c.turn_once-given.new.side.server) in
     let told : Told = g.H.Given.GivenBack.told c.in-Some.given in
     let back : GaveBack m p q told.urb told.code told.transfer = subst (λ r. TurnGave m p q (option_map (λ y. g.H.Given.GivenBack.told y) r)) c.in-Some.is c.turn_once-given.ensures.gave in
-    let same : g.H.Host.machine c.turn_once-given.new.side.host.now ≡ m = c.turn_once-given.ensures.same in
     gave_transfer m p q told.urb told.code told.transfer back
 
 pub returns-in-Some-clause-stepped : goal.returns-in-Some-clause-stepped
@@ -56,42 +46,30 @@ returns-in-Some-clause-stepped g c =
     let q : Known = g.H.Host.known (g.H.Server.Token.own c.turn_once-given.new.side.server) in
     let told : Told = g.H.Given.GivenBack.told c.in-Some.given in
     let back : GaveBack m p q told.urb told.code told.transfer = subst (λ r. TurnGave m p q (option_map (λ y. g.H.Given.GivenBack.told y) r)) c.in-Some.is c.turn_once-given.ensures.gave in
-    let same : g.H.Host.machine c.turn_once-given.new.side.host.now ≡ m = c.turn_once-given.ensures.same in
     let t = gave_transfer m p q told.urb told.code told.transfer back in
-    let z : Known = g.H.Host.known (g.H.Server.Token.own c.complete.new.side.server) in (
+    let gave : GaveBack m p q told.urb told.code (Some t.0) = subst (λ r. GaveBack m p q told.urb told.code r) t.1 back in
+    let z : Known = g.H.Host.known (g.H.Server.Token.own c.give_back.new.server) in
+    let came : Came m g.K.Handler.completes q z record { 0 = told.urb } told.code t.0 c.args.handler.now c.give_back.result
+    = subst (λ k. Came (g.H.Host.machine k) g.K.Handler.completes q z record { 0 = told.urb } told.code t.0 c.args.handler.now c.give_back.result) c.turn_once-given.ensures.same (c.give_back.ensures.came t.0 t.1) in (
       record { 0 = told.urb },
       told.code,
       t.0,
       q,
-      subst (λ r. GaveBack m p q told.urb told.code r) t.1 back,
-      λ o is. gave_of m g.K.Handler.completes p q z record { 0 = told.urb } told.code t.0 c.args.handler.now o (subst (λ r. GaveBack m p q told.urb told.code r) t.1 back) (handler_so (λ s. g.H.Host.machine s.host.now) (λ s. g.H.Host.known (g.H.Server.Token.own s.server)) m _ _ _ (λ s u t z k. k) (λ s u t r z k. k) (λ s u z k. k) _ _ _
-          c.turn_once-given.new.side c.complete.new.side record { 0 = told.urb } told.code t.0 c.args.handler.now c.complete.new.handler c.complete.result o is same c.turn_once-given.ensures.agrees.whole.whole.number (c.complete.ensures.completed t.0 t.1)),
+      gave,
+      λ o is. gave_of m g.K.Handler.completes p q z record { 0 = told.urb } told.code t.0 c.args.handler.now o gave (subst (Came m g.K.Handler.completes q z record { 0 = told.urb } told.code t.0 c.args.handler.now) is came),
     )
 
 pub returns-in-Some-clause-agrees : goal.returns-in-Some-clause-agrees
 returns-in-Some-clause-agrees g c =
     let m : Machine = g.H.Host.machine c.args.side.now.host.now in
+    let k : Machine = g.H.Host.machine c.turn_once-given.new.side.host.now in
     let p : Known = g.H.Host.known (g.H.Server.Token.own c.args.side.now.server) in
     let q : Known = g.H.Host.known (g.H.Server.Token.own c.turn_once-given.new.side.server) in
     let told : Told = g.H.Given.GivenBack.told c.in-Some.given in
     let back : GaveBack m p q told.urb told.code told.transfer = subst (λ r. TurnGave m p q (option_map (λ y. g.H.Given.GivenBack.told y) r)) c.in-Some.is c.turn_once-given.ensures.gave in
-    let same : g.H.Host.machine c.turn_once-given.new.side.host.now ≡ m = c.turn_once-given.ensures.same in
     let t = gave_transfer m p q told.urb told.code told.transfer back in
-    let both = handler_agrees (λ s. g.H.Host.machine s.host.now) (λ s. g.H.Host.known (g.H.Server.Token.own s.server)) m _ _ _ (λ s u t z k. k) (λ s u t r z k. k) (λ s u z k. k) _ _ _ c.turn_once-given.new.controller
-    c.turn_once-given.new.side c.complete.new.side record { 0 = told.urb } told.code t.0 c.args.handler.now c.complete.new.handler c.complete.result same c.turn_once-given.ensures.agrees.whole.whole.number (subst (λ k. Sound k q) same c.turn_once-given.ensures.agrees.whole.sound) (c.complete.ensures.completed t.0 t.1)
-    _ (g.H.Server.ServerToken.given c.complete.new.side.server) _ _ _ (λ u. g.H.Serves.is_settled c.complete.new.side.host.now c.complete.new.side.server u) c.complete.ensures.whole c.turn_once-given.ensures.agrees in
-    both.0
-
-pub returns-in-Some-clause-same : goal.returns-in-Some-clause-same
-returns-in-Some-clause-same g c =
-    let m : Machine = g.H.Host.machine c.args.side.now.host.now in
-    let p : Known = g.H.Host.known (g.H.Server.Token.own c.args.side.now.server) in
-    let q : Known = g.H.Host.known (g.H.Server.Token.own c.turn_once-given.new.side.server) in
-    let told : Told = g.H.Given.GivenBack.told c.in-Some.given in
-    let back : GaveBack m p q told.urb told.code told.transfer = subst (λ r. TurnGave m p q (option_map (λ y. g.H.Given.GivenBack.told y) r)) c.in-Some.is c.turn_once-given.ensures.gave in
-    let same : g.H.Host.machine c.turn_once-given.new.side.host.now ≡ m = c.turn_once-given.ensures.same in
-    let t = gave_transfer m p q told.urb told.code told.transfer back in
-    let both = handler_agrees (λ s. g.H.Host.machine s.host.now) (λ s. g.H.Host.known (g.H.Server.Token.own s.server)) m _ _ _ (λ s u t z k. k) (λ s u t r z k. k) (λ s u z k. k) _ _ _ c.turn_once-given.new.controller
-    c.turn_once-given.new.side c.complete.new.side record { 0 = told.urb } told.code t.0 c.args.handler.now c.complete.new.handler c.complete.result same c.turn_once-given.ensures.agrees.whole.whole.number (subst (λ k. Sound k q) same c.turn_once-given.ensures.agrees.whole.sound) (c.complete.ensures.completed t.0 t.1)
-    _ (g.H.Server.ServerToken.given c.complete.new.side.server) _ _ _ (λ u. g.H.Serves.is_settled c.complete.new.side.host.now c.complete.new.side.server u) c.complete.ensures.whole c.turn_once-given.ensures.agrees in
-    both.1
+    let z : Known = g.H.Host.known (g.H.Server.Token.own c.give_back.new.server) in
+    let whole = c.turn_once-given.ensures.agrees.whole in
+    came_agrees k g.K.Handler.completes q z record { 0 = told.urb } told.code t.0 c.args.handler.now c.give_back.result c.turn_once-given.new.controller whole.whole.number whole.sound (c.give_back.ensures.came t.0 t.1)
+    _ (g.H.Server.ServerToken.given c.give_back.new.server) _ _ _ (λ u. g.H.Serves.is_settled c.turn_once-given.new.side.host.now c.give_back.new.server u)
+    (record { here = c.give_back.ensures.here; whole = c.give_back.ensures.whole; sound = g.met.H.Host.sound c.turn_once-given.new.side.host.now (g.H.Server.Token.own c.give_back.new.server) c.give_back.ensures.here }) c.turn_once-given.ensures.agrees

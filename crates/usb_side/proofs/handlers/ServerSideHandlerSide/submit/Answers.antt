@@ -3,13 +3,14 @@ use Rattle.usb_types.specs.declared.errno.Errno.{Errno}
 use Rattle.usb_machine.specs.History.{Machine}
 use Rattle.usb_machine.specs.Fresh.{Known}
 use Rattle.usb_machine.specs.HostCalls.{Submitted, fault_at, shape_of}
+use Rattle.usb_side.specs.Side.{machine_in}
 use Rattle.usb_side.proofs.Over.{submit_still, submit_whole, submit_told}
-use Rattle.usb_side.proofs.handlers.HostSideHandlerSide.submit.Goals as goal
+use Rattle.usb_side.proofs.handlers.ServerSideHandlerSide.submit.Goals as goal
 
 pub returns-clause-still : goal.returns-clause-still
 returns-clause-still g c =
     let m : Machine = g.H.Host.machine c.args.self.now.host.now in
-    let t = c.args.self.now.server in
+    let t = c.args.self.now.server.now in
     let n = c.submit.new.pass in
     let token = g.H.Server.Token in
     let s = token.with_own t n in
@@ -28,7 +29,7 @@ returns-clause-still g c =
 pub returns-clause-submits : goal.returns-clause-submits
 returns-clause-submits g c =
     let m : Machine = g.H.Host.machine c.args.self.now.host.now in
-    let t = c.args.self.now.server in
+    let t = c.args.self.now.server.now in
     let n = c.submit.new.pass in
     let token = g.H.Server.Token in
     let s = token.with_own t n in
@@ -40,4 +41,4 @@ returns-clause-submits g c =
     let fresh : Submitted m p q c.args.urb.0 c.args.t fault c.submit.result =
     subst (λ x. Submitted m p (g.H.Host.known x) c.args.urb.0 c.args.t fault c.submit.result) (sym puts)
     (subst (λ x. Submitted m (g.H.Host.known x) (g.H.Host.known n) c.args.urb.0 c.args.t fault c.submit.result) c.pass.ensures.value c.submit.ensures.fresh) in
-    submit_told m p q c.args.urb c.args.t c.submit.result fresh
+    submit_told (machine_in g.H.Host.machine) (c.args.self.now.host.now, c.args.self.now.server.ghost_name) p q c.args.urb c.args.t c.submit.result fresh
