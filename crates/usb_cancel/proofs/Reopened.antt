@@ -1,14 +1,12 @@
 -- How far a reset is: what is rejected, and what is let go again.
-use Rattle.std.proofs.Common.{◌≡◌, ℕ, suc, ◌+◌, ◌-◌, ◌<◌, ◌⊎◌, inl, inr, ⊎_elim, Bool, true, false, not, ◌||◌, ◌&&◌, cond, eqb, List, [], ◌∷◌, ◌++◌, length, Option, sym, refl, ap, ◌∙◌, subst, append_assoc, append-nil, arith, eq-eqb, ne_eqb}
-use Rattle.usb_types.specs.declared.errno.Code.{Code}
+use Rattle.std.proofs.Common.{◌≡◌, ℕ, ◌+◌, ◌-◌, ◌<◌, ◌⊎◌, inl, inr, ⊎_elim, Bool, true, false, not, ◌||◌, ◌&&◌, cond, eqb, List, [], ◌∷◌, ◌++◌, length, Option, sym, refl, ap, ◌∙◌, subst, append_assoc, append-nil, arith, eq-eqb, ne_eqb}
 use Rattle.usb_types.specs.declared.urb.UrbId.{UrbId}
-use Rattle.usb_types.specs.declared.urb.Why.TheVariants.{Kill}
 use Rattle.usb_machine.specs.declared.event.Event.TheVariants.{Reject, Withdraw}
 use Rattle.usb_machine.specs.declared.entry.Entry.{Entry}
 use Rattle.usb_machine.specs.declared.pass_row.Held.{Held}
 use Rattle.usb_machine.specs.History.{Machine}
 use Rattle.usb_machine.specs.Parts.{held_of, holds_any, any_flag}
-use Rattle.usb_machine.specs.Calls.{plain_entry, marks_of, claims_of, claim_entries}
+use Rattle.usb_machine.specs.Calls.{plain_entry, claims_of, claim_entries}
 use Rattle.usb_machine.specs.Fresh.{Known, Grown, Sound, EndsWith, Fresh}
 use Rattle.usb_machine.proofs.Steps.{held_of-snoc}
 use Rattle.usb_machine.proofs.Growing.{grown_none, grown_more}

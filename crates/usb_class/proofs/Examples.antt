@@ -3,7 +3,7 @@ use Rattle.std.proofs.Common.{◌≡◌, ℕ, true, false, List, [], ◌∷◌, 
 use Rattle.std.specs.Prelude.{Some, None}
 use Rattle.usb_types.specs.declared.errno.Errno.TheVariants.{ENOENT}
 use Rattle.usb_types.specs.declared.errno.Code.TheVariants.{Zero, Fault}
-use Rattle.usb_types.specs.declared.urb.Role.TheVariants.{In, Note, Read0, Read1, Write, Ctl}
+use Rattle.usb_types.specs.declared.urb.Role.TheVariants.{In, Read0, Read1, Write, Ctl}
 use Rattle.usb_types.specs.declared.urb.Action.TheVariants.{Rest}
 use Rattle.usb_machine.specs.declared.transfer.Transfer.{Transfer}
 use Rattle.usb_machine.specs.Completion.{Completion}

@@ -38,7 +38,7 @@ use Rattle.usb_scene.specs.declared.operation.InterfaceOp.{InterfaceOp}
 use Rattle.usb_scene.specs.declared.operation.InterfaceOp.TheVariants as op
 use Rattle.usb_class.specs.InterfaceOps.{role_for, setup_for}
 use Rattle.usb_class.specs.Roles.{all_roles, has_for, role_in, kept_size}
-use Rattle.usb_class.specs.Handler.{action_of, goes_again, window_by, goes_on, is_ctl}
+use Rattle.usb_class.specs.Handler.{action_of, window_by, goes_on, is_ctl}
 use Rattle.usb_class.specs.Core.{IsCore, IsOfDriver, CanComplete}
 
 abbrev pub is_write : Role → Bool

@@ -6,7 +6,7 @@ use Rattle.usb_types.specs.declared.errno.Code.TheVariants.{Zero, Fault}
 use Rattle.usb_types.specs.declared.urb.Role.{Role}
 use Rattle.usb_types.specs.declared.urb.Role.TheVariants.{Ctl}
 use Rattle.usb_types.specs.declared.urb.Action.{Action}
-use Rattle.usb_types.specs.declared.urb.Action.TheVariants.{Rest, Again, Ask}
+use Rattle.usb_types.specs.declared.urb.Action.TheVariants.{Again, Ask}
 use Rattle.usb_machine.specs.declared.transfer.Transfer.{Transfer}
 use Rattle.usb_bind.specs.declared.row.Driver.{Driver}
 use Rattle.usb_bind.specs.declared.row.Driver.TheVariants.{Keyboard, Acm, Printer}

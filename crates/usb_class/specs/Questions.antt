@@ -3,7 +3,7 @@ use Rattle.std.specs.Prelude.{Bool, false, if◌then◌else◌, Option, Some, No
 use Rattle.usb_types.specs.declared.urb.Role.{Role}
 use Rattle.usb_machine.specs.declared.transfer.Transfer.{Transfer}
 use Rattle.usb_bind.specs.declared.row.Driver.{Driver}
-use Rattle.usb_bind.specs.declared.row.Driver.TheVariants.{Keyboard, Acm, Printer}
+use Rattle.usb_bind.specs.declared.row.Driver.TheVariants.{Printer}
 use Rattle.usb_printer.specs.Requests.{question_of}
 use Rattle.usb_printer.specs.Printer.{is_question}
 use Rattle.usb_class.specs.Origin.{Origin}

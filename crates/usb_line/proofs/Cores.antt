@@ -1,24 +1,18 @@
 -- The cores of drivers know what comes back to them.
-use Rattle.std.proofs.Common.{ℕ, ◌≡◌, ◌<◌, Option, Some, None, List, length, sym, ◌∙◌, subst, arith}
+use Rattle.std.proofs.Common.{ℕ, ◌≡◌, ◌<◌, Option, Some, None, sym, ◌∙◌, subst}
 use Rattle.std.specs.Prelude.{slice_get}
-use Rattle.std.proofs.lemmas.Option.{slice_get_within}
 use Rattle.usb_types.specs.declared.urb.Role.TheVariants.{Ctl}
-use Rattle.usb_class.specs.declared.class_core.Core.{Core}
-use Rattle.usb_class.proofs.Facts.{can_complete, role_is_of_driver}
 use Rattle.usb_scene.specs.declared.scene.Scene.{Scene}
 use Rattle.usb_scene.specs.WellFormed.{IsWellFormed}
 use Rattle.usb_prepare.specs.Ends.{ends_of}
 use Rattle.usb_prepare.specs.Layout.{urb_count}
-use Rattle.usb_prepare.specs.Prepared.{bindings_of}
 use Rattle.usb_prepare.proofs.Facts.{bound_near, home_near}
 use Rattle.usb_class.specs.declared.owner.Owner.{Owner}
 use Rattle.usb_line.specs.declared.run.UrbRow.{UrbRow}
 use Rattle.usb_line.specs.declared.run.LineRun.{LineRun}
-use Rattle.usb_trace.specs.Plan.{owner_of, origin_of}
-use Rattle.usb_trace.specs.Run.{Giveback, done_at}
+use Rattle.usb_trace.specs.Plan.{owner_of}
 use Rattle.usb_line.specs.Line.{Progress}
 use Rattle.usb_line.specs.Shows.{Shows}
-use Rattle.usb_trace.specs.Handlers.{ShowsCores}
 use Rattle.usb_line.specs.Back.{CanAsk}
 use Rattle.usb_class.specs.Handlers.{CanNote}
 use Rattle.usb_trace.proofs.CoresSeen.{owner_core}

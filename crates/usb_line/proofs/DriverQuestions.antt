@@ -1,14 +1,10 @@
 -- What a driver's core knows of its question, and which question a giveback asks.
-use Rattle.std.proofs.Common.{ℕ, zero, suc, ◌≡◌, ◌<◌, ◌≢◌, ◌&&◌, ◌||◌, Bool, true, false, cond, eqb, Option, Some, None, List, [], ◌∷◌, ◌++◌, length, refl, sym, ap, ◌∙◌, subst, append-nil, eq-eqb, ne_eqb}
-use Rattle.std.specs.Prelude.{slice_get, slice_set, filter_map, option_and_then, is_some, IfSome}
-use Rattle.std.specs.Option.{option_map_or}
-use Rattle.std.specs.Vec.{vec_len}
+use Rattle.std.proofs.Common.{ℕ, zero, suc, ◌≡◌, ◌<◌, ◌≢◌, ◌&&◌, ◌||◌, Bool, true, false, cond, eqb, Option, Some, None, List, [], ◌∷◌, ◌++◌, length, refl, sym, ap, ◌∙◌, subst}
+use Rattle.std.specs.Prelude.{slice_get, slice_set, is_some, IfSome}
 use mathlib.Core.Logic.{dite}
 use native.Mathlib.Decide.{ℕ_discrete}
 use Rattle.std.proofs.lemmas.List.{length-set}
 use Rattle.std.proofs.lemmas.Option.{slice_get_within}
-use Rattle.std.proofs.lemmas.List.Sums.{fold-append}
-use Rattle.std.proofs.lemmas.List.Elements.{filter_map-append}
 use Rattle.usb_types.specs.declared.errno.Code.{Code}
 use Rattle.usb_types.specs.declared.errno.Code.TheVariants.{Zero, Fault}
 use Rattle.usb_types.specs.declared.urb.UrbId.{UrbId}
@@ -23,13 +19,9 @@ use Rattle.usb_machine.specs.declared.plain.Plain.{Plain}
 use Rattle.usb_machine.specs.Plain.{urbs_of}
 use Rattle.usb_machine.specs.Shapes.{shape_fault}
 use Rattle.usb_bind.specs.declared.bound.Bound.{Bound}
-use Rattle.usb_bind.specs.declared.row.Driver.{Driver}
-use Rattle.usb_bind.specs.declared.row.Driver.TheVariants.{Keyboard, Acm, Printer}
 use Rattle.usb_class.specs.declared.class_core.Core.{Core}
-use Rattle.usb_machine.specs.Completion.{Completion}
-use Rattle.usb_class.specs.Origin.{Origin}
 use Rattle.usb_class.specs.Roles.{role_in}
-use Rattle.usb_class.specs.Questions.{question_by, is_answer, still_out}
+use Rattle.usb_class.specs.Questions.{question_by, is_answer}
 use Rattle.usb_class.specs.Handler.{action_of, is_ctl}
 use Rattle.usb_class.specs.Core.{IsCore, is_asking, CanUnask}
 use Rattle.usb_class.proofs.Facts.{asks_by}
@@ -44,14 +36,13 @@ use Rattle.usb_line.specs.declared.run.UrbRow.{UrbRow}
 use Rattle.usb_line.specs.declared.run.EndRow.{EndRow}
 use Rattle.usb_line.specs.declared.run.LineRun.{LineRun}
 use Rattle.usb_trace.specs.Plan.{owner_of, origin_of, DriverQuestion, question_with, owner_question, question_at}
-use Rattle.usb_trace.specs.Run.{Giveback, moved_in, is_accepted, out_after, is_out, question_out, asks_or_rests, done_in, done_at}
+use Rattle.usb_trace.specs.Run.{Giveback, moved_in, is_accepted, is_out, question_out, asks_or_rests, done_at}
 use Rattle.usb_class.specs.Handlers.{action_by}
 use Rattle.usb_line.specs.Line.{submit_answer, outcome_by}
 use Rattle.usb_trace.specs.Handlers.{ShowsCores}
 use Rattle.usb_line.specs.Back.{CanAsk, CanPoseQuestion, CanSettle, QuestionOf, QuestionWith, QuestionBy, Settled, IsPosedBy, ArePosed}
 use Rattle.usb_class.specs.Handlers.{Noted, GaveQuestion}
 use Rattle.usb_trace.proofs.Owners.{owner_bound}
-use Rattle.usb_device.proofs.Lookups.{each_set}
 use Rattle.usb_trace.proofs.CoresSeen.{write_unanswered, Now, noted_out, unowned, unasked, replaced, replaced_again, settled_cores, at_here, or_false, or_true}
 
 -- what a giveback asks, and what its driver's core then knows

@@ -5,19 +5,15 @@ use Rattle.std.proofs.lemmas.List.{length-set}
 use Rattle.usb_types.specs.declared.errno.Code.{Code}
 use Rattle.usb_types.specs.declared.urb.Action.{Action}
 use Rattle.usb_machine.specs.declared.transfer.Transfer.{Transfer}
-use Rattle.usb_machine.specs.declared.entry.Entry.{Entry}
 use Rattle.usb_machine.specs.declared.plain.Plain.{Plain}
 use Rattle.usb_machine.specs.Plain.{Stands, urbs_of}
-use Rattle.usb_scene.specs.declared.scene.Scene.{Scene}
 use Rattle.usb_trace.specs.declared.rows.GivebackRow.{GivebackRow}
 use Rattle.usb_trace.specs.declared.rows.Outcome.{Outcome}
 use Rattle.usb_trace.specs.declared.rows.Outcome.TheVariants as outcome
 use Rattle.usb_line.specs.declared.run.UrbRow.{UrbRow}
-use Rattle.usb_line.specs.declared.run.EndRow.{EndRow}
 use Rattle.usb_line.specs.declared.run.LineRun.{LineRun}
 use Rattle.usb_trace.specs.Plan.{machine_of, question_at}
-use Rattle.usb_trace.specs.Run.{Giveback, giveback_entries}
-use Rattle.usb_line.specs.Back.{MayGive, given_after, is_again, row_back, CanAsk, CanPoseQuestion, CanGiveBack, GaveStatus, Handled, IsPosedBy, QuestionBy, KeptAndNoted, HandlerRan, GaveBack, GaveUp}
+use Rattle.usb_line.specs.Back.{given_after, is_again, row_back, CanAsk, CanPoseQuestion, CanGiveBack, GaveStatus, Handled, IsPosedBy, QuestionBy, KeptAndNoted, HandlerRan, GaveBack, GaveUp}
 use Rattle.usb_line.proofs.DriverQuestions.{can_ask_kept, noted_there}
 
 -- the transfer rests, and its handler ends

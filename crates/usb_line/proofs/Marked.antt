@@ -6,7 +6,6 @@ use Rattle.usb_machine.specs.declared.entry.Entry.{Entry}
 use Rattle.usb_machine.specs.History.{Machine, home_of, state_of, pending_of}
 use Rattle.usb_machine.specs.Legal.{IsLegal, times}
 use Rattle.usb_machine.proofs.AtHome.{at_home}
-use Rattle.usb_machine.proofs.Places.{placed}
 use Rattle.usb_scene.specs.declared.scene.Scene.{Scene}
 use Rattle.usb_prepare.specs.Ends.{ends_of}
 use Rattle.usb_prepare.specs.Layout.{home}

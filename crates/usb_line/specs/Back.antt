@@ -38,7 +38,7 @@ use Rattle.usb_trace.specs.Plan.{machine_of, owner_of, DriverQuestion, question_
 use Rattle.usb_line.specs.Line.{submit_answer}
 use Rattle.usb_trace.specs.Run.{Giveback, moved_in, resent, asked_entries, handled_by, given_entries, giveback_entries}
 use Rattle.usb_class.specs.Handlers.{CanNote, Noted, GaveQuestion, TookBack}
-use Rattle.usb_trace.specs.GivebackRow.{brought_bytes, sent_bytes, IsReceived, Adds}
+use Rattle.usb_trace.specs.GivebackRow.{brought_bytes, sent_bytes, Adds}
 
 -- the handler was answered by the gate: of the URB that it submits again in this state, or of the one that a question is asked with
 abbrev pub IsGated : Scene → List Entry → ℕ → Option DriverQuestion → Outcome → Type 0

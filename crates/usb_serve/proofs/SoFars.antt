@@ -1,10 +1,9 @@
 -- What calls of the side leave of the replies so far.
-use Rattle.std.proofs.Common.{ℕ, zero, suc, ◌≡◌, ◌≢◌, ◌<◌, ◌≤◌, ◌+◌, ◌⊎◌, inl, inr, ⊎_elim, Bool, true, cond, eqb, Option, Some, None, List, [], ◌∷◌, ◌++◌, length, refl, sym, ap, ◌∙◌, subst, arith, length-append, eq-eqb, ne_eqb}
+use Rattle.std.proofs.Common.{ℕ, zero, suc, ◌≡◌, ◌≢◌, ◌<◌, ◌≤◌, ◌+◌, ◌⊎◌, inl, inr, ⊎_elim, Bool, true, cond, eqb, Some, None, List, [], ◌∷◌, ◌++◌, length, refl, sym, ap, ◌∙◌, subst, arith, length-append, eq-eqb, ne_eqb}
 use Rattle.std.specs.Prelude.{slice_get, slice_set, All, Contains}
 use Rattle.std.proofs.lemmas.Option.{slice_get_within}
 use Rattle.std.proofs.lemmas.List.{map-append}
 use Rattle.std.proofs.lemmas.List.Elements.{All-head, All-tail, Contains-append_left, Contains-append_right}
-use Rattle.usb_types.specs.declared.urb.UrbId.{UrbId}
 use Rattle.usb_machine.specs.declared.layout.Layout.{Layout}
 use Rattle.usb_machine.specs.declared.layout.Shape.{Shape}
 use Rattle.usb_machine.specs.declared.transfer.Transfer.{Transfer}
@@ -13,7 +12,7 @@ use Rattle.usb_xfer.specs.Direction.{Direction, In, Out, ControlIn, ControlOut, 
 use Rattle.usb_xfer.specs.Replies.{Question, Reply}
 use Rattle.usb_xfer.specs.declared.packet.Step.{Step}
 use Rattle.usb_xfer.specs.declared.packet.Step.TheVariants.{Waiting}
-use Rattle.usb_xfer.specs.Moved.{moved, moved_by, IsOpen}
+use Rattle.usb_xfer.specs.Moved.{moved_by}
 use Rattle.usb_xfer.specs.On.{Stops}
 use Rattle.usb_serve.specs.declared.controller.Held.{Held}
 use Rattle.usb_serve.specs.declared.controller.EndRow.{EndRow}

@@ -1,5 +1,5 @@
 -- What a step does for the only pass.
-use Rattle.std.proofs.Common.{◌≡◌, ℕ, ◌<◌, List, [], ◌∷◌, ◌++◌, Option, Some, None, sym, refl, ap, ◌∙◌, subst, append-nil}
+use Rattle.std.proofs.Common.{◌≡◌, ℕ, ◌<◌, [], ◌∷◌, ◌++◌, Option, sym, refl, ap, ◌∙◌, subst, append-nil}
 use Rattle.usb_machine.specs.declared.entry.Entry.{Entry}
 use Rattle.usb_machine.specs.declared.transfer.Transfer.{Transfer}
 use Rattle.usb_machine.specs.declared.event.Event.{Event}
@@ -10,9 +10,8 @@ use Rattle.usb_machine.specs.Legal.{IsLegal, May, Carries}
 use Rattle.usb_machine.specs.Plain.{IsNext, HasRoom}
 use Rattle.usb_machine.specs.Calls.{entry}
 use Rattle.usb_machine.proofs.Steps.{part_own}
-use Rattle.usb_machine.specs.Fresh.{Known, Fresh, Looked}
+use Rattle.usb_machine.specs.Fresh.{Fresh, Looked}
 use Rattle.usb_machine.proofs.Growing.{begins_self}
-use Rattle.usb_turn_host.specs.declared.stock.Stock.{Stock}
 use Rattle.usb_turn_host.specs.Stock.{IsStock, machine_of}
 use Rattle.usb_solo.specs.declared.solo.SoloPass.{SoloPass}
 use Rattle.usb_turn_host.specs.Turning.{IsLater}

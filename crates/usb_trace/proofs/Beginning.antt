@@ -14,7 +14,7 @@ use Rattle.usb_types.specs.declared.urb.Why.TheVariants.{Shutdown}
 use Rattle.usb_types.specs.declared.urb.Flag.TheVariants as flag
 use Rattle.usb_machine.specs.declared.entry.TheConstants.{SERVER}
 use Rattle.usb_machine.specs.declared.event.Event.{Event}
-use Rattle.usb_machine.specs.declared.event.Event.TheVariants.{Submit, Link, Take, Finish, Give, Rest, End, Flag}
+use Rattle.usb_machine.specs.declared.event.Event.TheVariants.{Submit, Flag}
 use Rattle.usb_machine.specs.declared.event.Answer.{Answer}
 use Rattle.usb_machine.specs.declared.transfer.Transfer.{Transfer}
 use Rattle.usb_machine.specs.declared.entry.Entry.{Entry}

@@ -8,7 +8,6 @@ use Rattle.std.proofs.lemmas.List.Elements.{All-contains, Contains-append_left, 
 use Rattle.usb_types.specs.declared.errno.Errno.{Errno}
 use Rattle.usb_types.specs.declared.errno.Code.{Code}
 use Rattle.usb_types.specs.declared.errno.Code.TheVariants.{Zero, Fault}
-use Rattle.usb_types.specs.declared.urb.UrbId.{UrbId}
 use Rattle.usb_machine.specs.declared.event.Event.{Event}
 use Rattle.usb_machine.specs.declared.event.Event.TheVariants.{Rest, Claim}
 use Rattle.usb_machine.specs.declared.event.Answer.TheVariants.{Number}
@@ -18,7 +17,7 @@ use Rattle.usb_machine.specs.Shapes.{shape_fault}
 use Rattle.usb_machine.specs.State.{answer_of}
 use Rattle.usb_machine.specs.History.{Machine, state_of, line_of}
 use Rattle.usb_machine.specs.Parts.{part_of}
-use Rattle.usb_machine.specs.Legal.{May, Follows, IsLegal, urb_of, end_of}
+use Rattle.usb_machine.specs.Legal.{May, IsLegal, urb_of, end_of}
 use Rattle.usb_machine.specs.Laws.{is_rest_or_claim, NoneRestsOrClaims}
 use Rattle.usb_machine.specs.HostCalls.{rested_of, rested_after, number_of}
 use Rattle.usb_machine.proofs.Prefixes.{follows_before, legal_before}
@@ -33,7 +32,7 @@ use Rattle.usb_trace.specs.declared.rows.CallAnswer.TheVariants as told
 use Rattle.usb_trace.specs.declared.rows.Outcome.{Outcome}
 use Rattle.usb_trace.specs.declared.rows.Outcome.TheVariants as outcome
 use Rattle.usb_trace.specs.Plan.{machine_of, owner_of, pass_of, handlers_pass, DriverQuestion, question_at, host_call_of}
-use Rattle.usb_trace.specs.Claims.{claim_at, claimed_after, claimed_by, numbers_of}
+use Rattle.usb_trace.specs.Claims.{claim_at, claimed_after, numbers_of}
 use Rattle.usb_trace.specs.Run.{CallRecord, submit_of, claimed_urbs, claims_in, IsDownAnswer, IsAnswered, IsMade, Giveback, moved_in, resent, asked_entries, handled_by, handler_entries, is_handlers, done_by, IsRun}
 use Rattle.usb_trace.specs.RunLaws.{left_by, left_with, IsLastRest}
 use Rattle.usb_trace.proofs.Claims.{rest_number}

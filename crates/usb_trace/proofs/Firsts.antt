@@ -5,7 +5,6 @@ use Rattle.std.proofs.lemmas.List.Concat.{flat_map-cons}
 use Rattle.std.proofs.lemmas.Grind.{flat_map-append}
 use mathlib.Core.Logic.{dite}
 use native.Mathlib.Decide.{ℕ_discrete}
-use Rattle.usb_types.specs.declared.errno.Code.{Code}
 use Rattle.usb_types.specs.declared.errno.Code.TheVariants.{Zero, Fault}
 use Rattle.usb_types.specs.declared.urb.UrbId.{UrbId}
 use Rattle.usb_machine.specs.declared.entry.TheConstants.{SERVER}
@@ -14,10 +13,10 @@ use Rattle.usb_machine.specs.declared.event.Event.TheVariants.{Submit, Give, End
 use Rattle.usb_machine.specs.declared.event.Answer.{Answer}
 use Rattle.usb_machine.specs.declared.transfer.Transfer.{Transfer}
 use Rattle.usb_machine.specs.declared.entry.Entry.{Entry}
-use Rattle.usb_machine.specs.State.{is_zero, refusal, accepted, answer_of}
+use Rattle.usb_machine.specs.State.{accepted, answer_of}
 use Rattle.usb_machine.specs.History.{state_of, line_of}
 use Rattle.usb_machine.specs.Parts.{part_of}
-use Rattle.usb_machine.specs.Calls.{plain_entry, submit_entries}
+use Rattle.usb_machine.specs.Calls.{plain_entry}
 use Rattle.usb_machine.specs.Legal.{IsLegal, urb_of, end_of}
 use Rattle.usb_machine.proofs.Places.{by_test}
 use Rattle.usb_machine.proofs.Marks.{accepts_open}
@@ -26,7 +25,7 @@ use Rattle.usb_scene.specs.declared.scene.Scene.{Scene}
 use Rattle.usb_trace.specs.declared.rows.Outcome.{Outcome}
 use Rattle.usb_trace.specs.declared.rows.Outcome.TheVariants as outcome
 use Rattle.usb_trace.specs.Plan.{machine_of, question_at}
-use Rattle.usb_trace.specs.Run.{CallRecord, Giveback, IsRun, moved_in, resent, rest_entry, handled_by, handler_entries, given_entries, giveback_entries, episode_of}
+use Rattle.usb_trace.specs.Run.{CallRecord, Giveback, IsRun, moved_in, resent, handled_by, handler_entries, given_entries, giveback_entries, episode_of}
 use Rattle.usb_trace.proofs.AskedEach.{asked_each}
 use Rattle.usb_trace.proofs.OneStatus.{IsOut, IsGiveAt, at as give_of, legal as legal_at, out as out_of, first as first_at, carries as carries_at}
 use Rattle.usb_trace.proofs.Carrying.{first_of, carried_after, carry, carried_of, carry-append, stays, leaves, other_gives, is_carried, stands, by_both}

@@ -16,7 +16,7 @@ use Rattle.usb_class.specs.declared.class_core.Core.{Core}
 use Rattle.usb_class.specs.declared.owner.Owner.{Owner}
 use Rattle.usb_class.specs.declared.handlers.HandledUrb.{HandledUrb}
 use Rattle.usb_class.specs.declared.handlers.Handlers.{Handlers}
-use Rattle.usb_class.specs.declared.handlers.Asker.TheVariants.{MayAsk, Asked}
+use Rattle.usb_class.specs.declared.handlers.Asker.TheVariants.{Asked}
 use Rattle.usb_class.specs.Roles.{role_in}
 use Rattle.usb_class.specs.Questions.{question_by, is_answer}
 use Rattle.usb_class.specs.Handler.{action_of, is_ctl}
@@ -34,7 +34,7 @@ use Rattle.usb_trace.specs.Plan.{owner_of, again_of, origin_of, DriverQuestion, 
 use Rattle.usb_trace.specs.Run.{Giveback, moved_in, times_back, is_accepted, may_again, is_out, question_out, asks_or_rests, acts, IsHandled, done_at}
 use Rattle.usb_trace.specs.Handlers.{ShowsCores, handled_urb, new_handled, AreNewHandlers, AreHandlersOf, asked_with, Handles, rested, again, silent, asked, refused, IsAskedAfter}
 use Rattle.usb_trace.proofs.Owners.{owner_bound}
-use Rattle.usb_trace.proofs.CoresSeen.{some_at, put_at, more_left, times_push, owner_core, write_unanswered, Now, noted_out, unowned, unasked, replaced, replaced_again, settled_cores, at_here, or_false, or_true, noted_action, noted_cores}
+use Rattle.usb_trace.proofs.CoresSeen.{some_at, more_left, times_push, owner_core, write_unanswered, Now, noted_out, unowned, unasked, replaced, replaced_again, settled_cores, at_here, or_false, or_true, noted_action, noted_cores}
 use Rattle.usb_device.proofs.Lookups.{each_set}
 
 -- what stands where an item was put

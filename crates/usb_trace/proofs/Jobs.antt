@@ -4,7 +4,6 @@ use Rattle.std.specs.Prelude.{All}
 use Rattle.std.specs.List.{flat_map}
 use Rattle.std.proofs.lemmas.List.Concat.{flat_map-cons}
 use Rattle.std.proofs.lemmas.List.Elements.{All-nil, All-cons}
-use Rattle.usb_types.specs.declared.errno.Code.{Code}
 use Rattle.usb_types.specs.declared.errno.Code.TheVariants.{Zero, Fault}
 use Rattle.usb_types.specs.declared.urb.Action.{Action}
 use Rattle.usb_types.specs.declared.urb.Action.TheVariants.{Rest, Again, Ask}
@@ -19,7 +18,6 @@ use Rattle.usb_class.specs.Handler.{action_of}
 use Rattle.usb_scene.specs.declared.scene.Scene.{Scene}
 use Rattle.usb_prepare.specs.Ends.{shape_at}
 use Rattle.usb_prepare.specs.Layout.{home}
-use Rattle.usb_class.specs.declared.owner.Owner.{Owner}
 use Rattle.usb_trace.specs.declared.rows.Outcome.{Outcome}
 use Rattle.usb_trace.specs.declared.rows.Outcome.TheVariants as outcome
 use Rattle.usb_trace.specs.Plan.{owner_of, DriverQuestion, question_at}
@@ -27,7 +25,7 @@ use Rattle.usb_trace.specs.Run.{CallRecord, Giveback, IsRun, moved_in, resent, g
 use Rattle.usb_class.specs.Handlers.{action_by}
 use Rattle.usb_trace.specs.RunLaws.{takes_packets, write_of, writes_of, IsRefused, IsCutOff, IsJobInRun, IsForWrites}
 use Rattle.usb_trace.proofs.OneStatus.{sent_window}
-use Rattle.usb_trace.proofs.Carrying.{carry, carried_of, stands, sent_as, none_left}
+use Rattle.usb_trace.proofs.Carrying.{carried_of, stands, sent_as, none_left}
 use Rattle.usb_trace.proofs.Firsts.{IsFromZero, Leaves, IsLeft, left_own, left_other, carried_on, begins_at_first}
 use Rattle.usb_trace.proofs.Windows.{handled_at, moved_on, kept_by_out, any_count}
 

@@ -1,18 +1,14 @@
 -- What the server has seen of an URB stays so while it makes no entry.
-use Rattle.std.proofs.Common.{◌≡◌, ◌≢◌, ⊎_elim, ℕ, ◌<◌, ◌≤◌, Bool, true, false, cond, List, [], ◌∷◌, ◌++◌, length, sym, refl, ap, ◌∙◌, subst, arith, length-append}
+use Rattle.std.proofs.Common.{◌≡◌, ◌≢◌, ⊎_elim, ℕ, ◌<◌, ◌≤◌, true, false, List, [], ◌∷◌, ◌++◌, sym, refl, ap, ◌∙◌, subst, arith}
 use mathlib.Core.List.{IsPrefix}
 use mathlib.Core.Logic.{dite}
 use native.Mathlib.Decide.{ℕ_discrete}
-use Rattle.usb_machine.specs.declared.event.Event.{Event}
-use Rattle.usb_machine.specs.declared.event.Event.TheVariants.{Submit, Mark, Finish, Give, End}
-use Rattle.usb_machine.specs.declared.event.Answer.{Answer}
 use Rattle.usb_machine.specs.declared.entry.Entry.{Entry}
-use Rattle.usb_machine.specs.declared.state.UrbState.{UrbState}
 use Rattle.usb_machine.specs.declared.state.Mark.TheVariants.{Clear, Unlinked, Finished}
-use Rattle.usb_machine.specs.State.{after, accepted, unlinks, finishes}
-use Rattle.usb_machine.specs.History.{Machine, state_of, is_of}
+use Rattle.usb_machine.specs.State.{after}
+use Rattle.usb_machine.specs.History.{Machine, state_of}
 use Rattle.usb_machine.specs.Parts.{part_of}
-use Rattle.usb_machine.specs.Legal.{May, Follows, IsLegal, empty, longer}
+use Rattle.usb_machine.specs.Legal.{IsLegal}
 use Rattle.usb_machine.specs.declared.entry.TheConstants.{SERVER}
 use Rattle.usb_machine.specs.History.{pending_of}
 use Rattle.usb_machine.specs.Fresh.{Known}
@@ -30,7 +26,7 @@ use Rattle.usb_machine.specs.State.{is_clear, why_of}
 use Rattle.usb_machine.proofs.Server as machine_server
 use Rattle.usb_machine.specs.Tokens.{gives_of}
 use Rattle.usb_turn_host.proofs.Serving.{gives_same}
-use Rattle.usb_machine.proofs.Server.{prefix_last, part_length, pending_own, mark_stands, running_few}
+use Rattle.usb_machine.proofs.Server.{pending_own, mark_stands, running_few}
 use Rattle.usb_machine.proofs.Staying.{runs_stay, open_stays}
 
 module _ (g : Machine) (p : Known) (h : List Entry) (server : p.number ≡ SERVER) (later : IsLater g p h) where

@@ -1,7 +1,7 @@
 use Rattle.std.proofs.Common.{◌+◌, inl, drop, subst, refl}
 use Rattle.std.proofs.Common.{get_or}
 use Rattle.usb_cancel.specs.Flushing.{ids}
-use Rattle.usb_cancel.proofs.Flushes.{ids_at, ids_end, has_at}
+use Rattle.usb_cancel.proofs.Flushes.{ids_at, ids_end}
 use Rattle.usb_cancel.proofs.Reopened.{Rejecting, reject_start, reject_next, reject_end}
 use Rattle.usb_cancel.proofs.reopens.reject_all.Goals as goal
 

@@ -1,4 +1,4 @@
-use Rattle.std.proofs.Common.{◌≡◌, ◌-◌, length, sym, ap, ◌∙◌}
+use Rattle.std.proofs.Common.{◌≡◌, ◌-◌, ap, ◌∙◌}
 use Rattle.usb_line.proofs.GivingBack.{last_filled}
 use Rattle.usb_line.proofs.giveback.fill_in.Goals as goal
 

@@ -1,5 +1,5 @@
 use Rattle.usb_trace.specs.Rows.{outcome_of}
-use Rattle.std.proofs.Common.{refl, ◌∙◌}
+use Rattle.std.proofs.Common.{◌∙◌}
 use Rattle.usb_line.proofs.Telling.{ends_told, same_outcome}
 use Rattle.usb_line.proofs.line.leaves.Goals as goal
 

@@ -1,4 +1,4 @@
-use Rattle.std.proofs.Common.{rules, refl, arith}
+use Rattle.std.proofs.Common.{rules, refl}
 use Rattle.usb_class.proofs.Handled.{kept_same}
 use Rattle.usb_class.proofs.handlers.HandlersHandler.complete.Goals as goal
 

@@ -1,7 +1,6 @@
 use Rattle.std.proofs.Common.{ℕ, ◌++◌, ◌∷◌, [], ◌∙◌, ◌+◌, take, get_or, List, None, ap, refl, sym, subst, arith, append-nil}
 use Rattle.usb_types.specs.declared.urb.UrbId.{UrbId}
 use Rattle.usb_machine.specs.declared.entry.TheConstants.{HUB}
-use Rattle.usb_machine.specs.declared.entry.Entry.{Entry}
 use Rattle.usb_machine.specs.declared.event.Answer.{Answer}
 use Rattle.usb_machine.specs.declared.event.Event.TheVariants.{Flag}
 use Rattle.usb_machine.specs.Calls.{entry}

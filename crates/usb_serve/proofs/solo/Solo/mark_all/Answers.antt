@@ -1,10 +1,8 @@
 use Rattle.std.proofs.Common.{ℕ, ◌++◌, ◌∷◌, [], ◌∙◌, ◌+◌, take, get_or, List, length, ap, refl, sym, subst, arith, append-nil, length-append}
 use Rattle.std.proofs.lemmas.List.{length-map}
 use Rattle.usb_types.specs.declared.urb.UrbId.{UrbId}
-use Rattle.usb_types.specs.declared.errno.Code.{Code}
 use Rattle.usb_types.specs.declared.urb.Why.TheVariants.{Shutdown}
 use Rattle.usb_machine.specs.declared.entry.TheConstants.{HUB}
-use Rattle.usb_machine.specs.declared.entry.Entry.{Entry}
 use Rattle.usb_machine.specs.Calls.{marks_of}
 use Rattle.usb_serve.specs.Solo.{IsSoloAt}
 use Rattle.usb_serve.specs.Flushing.{ids}

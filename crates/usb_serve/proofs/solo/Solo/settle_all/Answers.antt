@@ -1,8 +1,7 @@
-use Rattle.std.proofs.Common.{ℕ, ◌≡◌, ◌<◌, ◌≤◌, ◌++◌, ◌∷◌, [], ◌∙◌, ◌+◌, take, get_or, set, List, Option, length, ap, refl, sym, subst, arith, append-nil, append_assoc}
+use Rattle.std.proofs.Common.{ℕ, ◌≡◌, ◌<◌, ◌≤◌, ◌++◌, ◌∷◌, [], ◌∙◌, ◌+◌, take, get_or, set, List, Option, length, refl, sym, subst, arith, append-nil, append_assoc}
 use Rattle.std.proofs.lemmas.List.{take_more_set, take_all}
 use Rattle.usb_types.specs.declared.urb.UrbId.{UrbId}
 use Rattle.usb_machine.specs.declared.entry.TheConstants.{HUB}
-use Rattle.usb_machine.specs.declared.entry.Entry.{Entry}
 use Rattle.usb_machine.specs.Calls.{claim_entries}
 use Rattle.usb_serve.specs.declared.solo.Waited.TheVariants.{Quiet, Idle, Busy}
 use Rattle.usb_serve.specs.Solo.{IsSoloAt}

@@ -1,11 +1,10 @@
-use Rattle.std.proofs.Common.{◌≡◌, ℕ, ◌<◌, true, false, List, [], ◌∷◌, ◌++◌, Option, Some, None, Ok, subst, sym, refl, ap, ◌∙◌, get_or, slice_get, length}
+use Rattle.std.proofs.Common.{◌≡◌, ℕ, ◌<◌, [], ◌∷◌, ◌++◌, Some, None, Ok, subst, sym, ◌∙◌}
 use Rattle.usb_types.specs.declared.errno.Code.TheVariants.{Zero}
-use Rattle.usb_machine.specs.declared.layout.Layout.{Layout}
 use Rattle.usb_machine.specs.declared.event.Event.TheVariants.{Submit, Link}
 use Rattle.usb_machine.specs.declared.event.Answer.TheVariants.{Code as Status}
 use Rattle.usb_machine.specs.Calls.{entry, plain_entry}
 use Rattle.usb_machine.specs.Fresh.{Fresh}
-use Rattle.usb_machine.specs.HostCalls.{fault_at, Submitted}
+use Rattle.usb_machine.specs.HostCalls.{Submitted}
 use Rattle.usb_machine.proofs.Growing.{fresh_then}
 use Rattle.usb_machine.specs.Replay.{machine_for}
 use Rattle.usb_solo.specs.Solo.{known_of}

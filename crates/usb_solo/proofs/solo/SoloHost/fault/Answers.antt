@@ -1,11 +1,10 @@
-use Rattle.std.proofs.Common.{◌≡◌, ◌<◌, List, Option, Some, None, length, slice_get, get_or, subst, sym, refl, ap, ◌∙◌, rules}
+use Rattle.std.proofs.Common.{◌≡◌, ◌<◌, List, Some, None, length, slice_get, get_or, subst, sym, ap, ◌∙◌, rules}
 use Rattle.std.proofs.lemmas.Option.{slice_get-get_or}
-use Rattle.usb_machine.specs.declared.layout.Layout.{Layout}
 use Rattle.usb_machine.specs.declared.layout.Shape.{Shape}
 use Rattle.usb_machine.specs.History.{or_zero}
 use Rattle.usb_machine.specs.Shapes as shapes
 use Rattle.usb_machine.specs.HostCalls.{fault_at}
-use Rattle.usb_turn_host.proofs.Homes.{within, home_at}
+use Rattle.usb_turn_host.proofs.Homes.{home_at}
 use Rattle.usb_solo.proofs.solo.SoloHost.fault.Goals as goal
 
 pub bounds-items-ep : goal.bounds-items-ep

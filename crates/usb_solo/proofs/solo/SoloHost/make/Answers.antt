@@ -1,14 +1,7 @@
-use Rattle.std.proofs.Common.{◌≡◌, List, [], ◌∷◌, ◌++◌, Option, Some, None, subst, sym, refl, ap, ◌∙◌}
-use Rattle.usb_machine.specs.declared.event.Event.TheVariants.{Submit, Quiet, Claim}
-use Rattle.usb_machine.specs.declared.event.Answer.TheVariants.{Nothing, Number, Code as Status}
+use Rattle.std.proofs.Common.{◌≡◌, [], ◌∷◌, ◌++◌, None, refl, ◌∙◌}
 use Rattle.usb_machine.specs.Replay.{machine_for}
-use Rattle.usb_machine.specs.Calls.{entry}
-use Rattle.usb_machine.specs.Fresh.{Fresh}
-use Rattle.usb_machine.specs.HostCalls.{number_of, answer_of_submit}
-use Rattle.usb_turn_host.specs.Stock.{IsStock}
 use Rattle.usb_turn_host.proofs.Turns.{carries_still}
 use Rattle.usb_solo.specs.declared.solo.SoloPass.{SoloPass}
-use Rattle.usb_solo.specs.Solo.{known_of}
 use Rattle.usb_solo.proofs.Alone.{next, stepped}
 use Rattle.usb_solo.proofs.solo.SoloHost.make.Goals as goal
 
