@@ -227,7 +227,7 @@ module _ (s : Scene) (good : IsWellFormed s) (f : Progress) (line : IsLineRun s 
         entries = run.together refl;
         gives = run.gives;
         firsts = run.firsts;
-        replies = run.replies;
+        replies = λ apt. run.replies;
         moves = run.moves;
         handled = run.handled;
       };

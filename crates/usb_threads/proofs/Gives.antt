@@ -100,7 +100,7 @@ module _ (s : Scene) where
   handled_none u back again asking (outcome.Again (Fault e)) = refl
   handled_none u back again asking (outcome.Asked c) = let z = asked_none asking c in omega arith
 
-  given_one : (u : ℕ) (status : Code) (b : Bool) → gives_in (given_entries u status b) ≡ 1
+  pub given_one : (u : ℕ) (status : Code) (b : Bool) → gives_in (given_entries u status b) ≡ 1
   given_one u status true = refl
   given_one u status false = refl
 

@@ -22,6 +22,7 @@ use Rattle.usb_line.proofs.Returning.{AreHandled-push}
 use Rattle.usb_threads.specs.Passes.{WentOn}
 use Rattle.usb_threads.specs.Serving.{of_givebacks, HasServed, GaveNothing, Gave}
 use Rattle.usb_threads.proofs.Firsts.{AreFirst, AreFirst-push, firsts_each}
+use Rattle.usb_threads.proofs.Sending.{apt_before}
 use Rattle.usb_threads.proofs.Gives.{gives_in, gives-append, none_given, servers_gives, gives_kept, one_give}
 
 kept-append : (xs ys : List Entry) → of_givebacks (xs ++ ys) ≡ of_givebacks xs ++ of_givebacks ys
@@ -59,7 +60,7 @@ module _ (s : Scene) (rounds : List Giveback) (p q : Known) (number : p.number �
         entries = ap of_givebacks went.grown.mine ∙ (kept-append p.mine nothing.more ∙ (ap (λ l. of_givebacks p.mine ++ l) nothing.aside ∙ (append-nil (of_givebacks p.mine) ∙ old.entries)));
         gives = ap episodes_of went.grown.begins.is ∙ (no_episode p.seen xs none ∙ old.gives);
         firsts = subst (AreFirst rounds) (sym (ap (firsts_of g) went.grown.begins.is ∙ no_first_given g p.seen xs none)) old.firsts;
-        replies = old.replies;
+        replies = λ apt. old.replies (apt_before s q.seen p.seen went.grown.begins apt);
         moves = old.moves;
         handled = old.handled;
       }
@@ -98,7 +99,7 @@ module _ (s : Scene) (rounds : List Giveback) (p q : Known) (number : p.number �
           ∙ (ap (λ l. flat_map (giveback_entries s) rounds ++ l) (sym (append-nil (giveback_entries s r))) ∙ sym (flat_map-append (giveback_entries s) rounds (r ∷ [])))));
       gives = episodes;
       firsts = subst (AreFirst (rounds ++ r ∷ [])) (sym first_is) (AreFirst-push rounds (firsts_of g p.seen) r (is_first r.urb (pending_of g gave.before (home_of g r.urb))) as_many old.firsts gave.first);
-      replies = replies-push s rounds r old.replies gave.replies;
+      replies = λ apt. replies-push s rounds r (old.replies (apt_before s q.seen p.seen gave.went.grown.begins apt)) (gave.replies apt);
       moves = All-push (IsGiveback s) rounds r old.moves gave.moves;
       handled = AreHandled-push s [] rounds r old.handled gave.handled;
     }

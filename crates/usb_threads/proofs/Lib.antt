@@ -2,6 +2,9 @@ pub mod Lists
 pub mod Accepting
 pub mod Quiet
 pub mod Gives
+pub mod Sending
+pub mod Senders
+pub mod AllSent
 pub mod Firsts
 pub mod Giving
 pub mod Threads

@@ -1,6 +1,6 @@
 -- Promises of one closed history make a run.
 use Rattle.std.proofs.Common.{ℕ, zero, suc, ◌≡◌, ◌≢◌, ◌<◌, ◌⊎◌, inl, inr, ⊎_elim, Bool, true, false, Some, List, [], ◌++◌, length, map, refl, sym, ap, ◌∙◌, subst, arith, append_assoc, append-nil}
-use Rattle.std.specs.Prelude.{slice_get}
+use Rattle.std.specs.Prelude.{slice_get, All}
 use Rattle.std.specs.List.{flat_map}
 use Rattle.std.proofs.lemmas.List.{append_cancel_left}
 use Rattle.std.proofs.lemmas.Option.{slice_get_within}
@@ -19,17 +19,19 @@ use Rattle.usb_machine.proofs.Places.{placed}
 use Rattle.usb_machine.proofs.Rooms.{queued_has_home, home_below, in_line_once}
 use Rattle.usb_scene.specs.declared.scene.Scene.{Scene}
 use Rattle.usb_scene.specs.declared.scene.SceneThread.{SceneThread}
+use Rattle.usb_scene.specs.WellFormed.{IsCall, IsWellFormed}
 use Rattle.usb_prepare.specs.Layout.{urb_count}
 use Rattle.usb_trace.specs.Plan.{machine_of, pass_of, main_pass}
 use Rattle.usb_trace.specs.Claims.{claimed_by, numbers_of}
-use Rattle.usb_trace.specs.Run.{CallRecord, Giveback, urbs_of, firsts_of, call_entries, claims_in, done_by, opening, kills_of, seen_quiet, IsMade, AreFound, IsOver, IsFramed, IsRun}
+use Rattle.usb_trace.specs.Run.{CallRecord, Giveback, urbs_of, firsts_of, call_entries, claims_in, episode_of, done_by, opening, closing, kills_of, seen_quiet, IsMade, AreFound, IsOver, IsFramed, IsRun}
 use Rattle.usb_trace.proofs.Episodes.{HaveNoGive, no_episode, no_first_given}
-use Rattle.usb_line.proofs.Passes.{main_is_pass}
+use Rattle.usb_line.proofs.Passes.{main_is_pass, is_thread}
 use Rattle.usb_line.proofs.Lines.{in_pending_once, no_urbs}
 use Rattle.usb_line.proofs.Parts.{of_controller, of_handlers}
 use Rattle.usb_threads.specs.Passes.{IsReady}
 use Rattle.usb_threads.specs.MainPass.{IsMain, HasClosed}
 use Rattle.usb_threads.specs.Scripts.{IsJoined}
+use Rattle.usb_threads.specs.Apt.{AreApt}
 use Rattle.usb_threads.specs.Serving.{of_givebacks, HasServed}
 use Rattle.usb_threads.specs.Promises.{IsPutTogether, all_made}
 use Rattle.usb_threads.proofs.Lists.{part_longer, nothing_before, nothing_after, part_between, claimed_then, only_part}
@@ -37,10 +39,13 @@ use Rattle.usb_threads.proofs.Closed.{closed_begins, closed_own, closed_none}
 use Rattle.usb_threads.proofs.Accepting.{reads_accepted}
 use Rattle.usb_threads.proofs.Quiet.{kept_all}
 use Rattle.usb_threads.proofs.Gives.{none_given, servers_after, gives_in}
+use Rattle.usb_threads.proofs.Sending.{SendEach, SendEach-append, apt_before}
+use Rattle.usb_threads.proofs.Senders.{reads_send, closing_sends, calls_send}
+use Rattle.usb_threads.proofs.AllSent.{all_apt}
 use Rattle.usb_threads.proofs.Firsts.{AreFirst}
 use Rattle.usb_threads.proofs.Threads.{AreBy, all_of, all_told}
 
-module _ (s : Scene) (h : List Entry) (made : ℕ → List CallRecord) (rounds : List Giveback) (all : IsPutTogether s h made rounds) where
+module _ (s : Scene) (h : List Entry) (made : ℕ → List CallRecord) (rounds : List Giveback) (good : IsWellFormed s) (all : IsPutTogether s h made rounds) where
   abbrev g : Machine
   g = machine_of s
 
@@ -234,6 +239,30 @@ module _ (s : Scene) (h : List Entry) (made : ℕ → List CallRecord) (rounds :
   server_entries : of_givebacks (part_of h SERVER) ≡ of_givebacks to.mine
   server_entries = ap of_givebacks server_part
 
+  given_back : episodes_of h ≡ map episode_of rounds
+  given_back = ap episodes_of server_end.is ∙ (no_episode to.seen rest no_give ∙ served.gives)
+
+  -- what each pass but the server's sends is apt: main's reads, and the calls of a script
+  main_sends : SendEach s (part_of h p)
+  main_sends = subst (SendEach s) (sym (main_part ∙ ap (λ m. opening s ++ m) closes.entries))
+      (SendEach-append s (opening s) (closing s closes.marks (numbers_of closes.rests)) (reads_send s good (urb_count s)) (closing_sends s closes.marks (numbers_of closes.rests)))
+
+  thread_sends : (i : ℕ) → i < length s.threads → SendEach s (part_of h (pass_of s i))
+  thread_sends i l = let j = joined i l in
+      subst (SendEach s) (sym (thread_part i l)) (calls_send s good (made i) (subst (All (IsCall s)) (sym j.worked.made.calls) (is_thread s good i j.thread j.at).calls))
+
+  others_send : (q : ℕ) → q ≢ SERVER → SendEach s (part_of h q)
+  others_send q server = dite (ℕ_discrete q p)
+      (λ is. subst (λ k. SendEach s (part_of h k)) (sym is) main_sends)
+      (λ off. ⊎_elim
+      (λ (k : (i : ℕ) × (i < length s.threads) × (q ≡ pass_of s i)). subst (λ j. SendEach s (part_of h j)) (sym k.2) (thread_sends k.0 k.1))
+      (λ (none : (i : ℕ) → i < length s.threads → q ≢ pass_of s i). subst (SendEach s) (sym (spare_none q server off none)) tt)
+      (find_thread q (length s.threads)))
+
+  -- so all that was sent is
+  apt : AreApt s h
+  apt = all_apt s good h legal rounds (server_entries ∙ served.entries) given_back others_send
+
   -- what each thread made is there, by its thread
   whose : (i : ℕ) → i < length s.threads → AreBy i (made i)
   whose i l = (joined i l).worked.made.whose
@@ -263,9 +292,9 @@ module _ (s : Scene) (h : List Entry) (made : ℕ → List CallRecord) (rounds :
     handlers = of_handlers s (part_of h SERVER) rounds (server_entries ∙ served.entries);
     together = λ same. server_entries ∙ served.entries;
     others = λ q off main none. spare_none q off main none;
-    gives = ap episodes_of server_end.is ∙ (no_episode to.seen rest no_give ∙ served.gives);
+    gives = given_back;
     firsts = subst (AreFirst rounds) (sym (ap (firsts_of g) server_end.is ∙ no_first_given g to.seen rest no_give)) served.firsts;
-    replies = served.replies;
+    replies = served.replies (apt_before s h to.seen server_end apt);
     moves = served.moves;
     handled = served.handled;
   }

@@ -1,6 +1,7 @@
 pub mod Passes
 pub mod MainPass
 pub mod Scripts
+pub mod Apt
 pub mod Serving
 pub mod Promises
 pub mod NextCall

@@ -14,17 +14,19 @@ use Rattle.usb_trace.specs.Plan.{machine_of}
 use Rattle.usb_trace.specs.Due.{next_due}
 use Rattle.usb_trace.specs.Run.{Giveback, is_aside, giveback_entries, episode_of, is_first, firsts_of, rounds_at, replies_in, asked_in, asked_of, IsGiveback, moved_in, acts, IsHandled, AreHandled}
 use Rattle.usb_threads.specs.Passes.{WentOn, IsReady}
+use Rattle.usb_threads.specs.Apt.{AreApt}
 
 -- the entries that belong to givebacks: all but the takes, and the finishes that found a mark
 abbrev pub of_givebacks : List Entry → List Entry
 of_givebacks m = filter (λ x. not (is_aside x.event x.answer)) m
 
--- the server, which has seen this history and has these entries of its own, made these givebacks, each with its handler right after it
+-- the server, which has seen this history and has these entries of its own, made these givebacks, each with its handler right after it.
+-- Their replies are those that were due, if each transfer that was sent in what it has seen is one that its URB may have
 pub record HasServed (s : Scene) (seen mine : List Entry) (rounds : List Giveback) : Type 0 where
   pub entries : of_givebacks mine ≡ flat_map (giveback_entries s) rounds
   pub gives : episodes_of seen ≡ map episode_of rounds
   pub firsts : (k : ℕ) (r : Giveback) → slice_get rounds k ≡ Some r → 0 < length r.replies → slice_get (firsts_of (machine_of s) seen) k ≡ Some true
-  pub replies : (e : ℕ) → replies_in (rounds_at s e rounds) ≡ next_due s e [] (asked_of s e rounds)
+  pub replies : AreApt s seen → (e : ℕ) → replies_in (rounds_at s e rounds) ≡ next_due s e [] (asked_of s e rounds)
   pub moves : All (IsGiveback s) rounds
   pub handled : AreHandled s [] rounds
 
@@ -60,7 +62,8 @@ pub record Gave (s : Scene) (rounds : List Giveback) (p q : Known) (r : Giveback
   pub split : q.seen ≡ before ++ entry SERVER (Give record { 0 = r.urb }) (Status r.status) None ∷ later
   pub was_sent : sent_of before r.urb ≡ Some r.sent
   pub first : 0 < length r.replies → is_first r.urb (pending_of (machine_of s) before (home_of (machine_of s) r.urb)) ≡ true
-  -- its replies are those that are due next at its endpoint, and they move its transfer. Its handler does what it should
-  pub replies : r.replies ≡ next_due s (home s r.urb) (asked_of s (home s r.urb) rounds) (asked_in s r)
+  -- its replies are those that are due next at its endpoint, if each transfer that was sent is one that its URB may have, and they
+  -- move its transfer. Its handler does what it should
+  pub replies : AreApt s q.seen → r.replies ≡ next_due s (home s r.urb) (asked_of s (home s r.urb) rounds) (asked_in s r)
   pub moves : IsGiveback s r
   pub handled : IsHandled (acts s rounds r.urb r.status (moved_in s r)) r.outcome

@@ -16,10 +16,10 @@ ghost use Rattle.usb_threads.specs.Serving.{HasServed, GaveNothing, Gave};
 ghost use Rattle.usb_threads.specs.Promises.{IsPutTogether, all_made};
 ghost use Rattle.usb_threads.specs.NextCall.{MayCall, MayGoOn};
 
-/// Promises that are put together of one closed history make a run of the scene.
+/// Promises that are put together of one closed history make a run of a well-formed scene.
 pub fn promises_make_a_run()
-    ensures { (s : Scene) (h : List Entry) (made : ℕ → List CallRecord) (rounds : List Giveback) → IsPutTogether s h made rounds
-        → IsRun s h (all_made s made) rounds }
+    ensures { (s : Scene) (h : List Entry) (made : ℕ → List CallRecord) (rounds : List Giveback) → IsWellFormed s
+        → IsPutTogether s h made rounds → IsRun s h (all_made s made) rounds }
 {}
 
 /// The run in line order of a well-formed scene is put together of such promises.
