@@ -9,3 +9,4 @@ pub mod Closed
 pub mod Together
 pub mod Back
 pub mod Going
+pub mod Handlers
