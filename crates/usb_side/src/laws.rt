@@ -1,5 +1,5 @@
 //! What a completion over a host leaves of what the server and a controller know.
-ghost use Rattle.std.specs.Prelude.{ℕ, ◌≡◌, List, Result};
+ghost use Rattle.std.specs.Prelude.{ℕ, List, Result};
 ghost use Rattle.usb_types.specs.declared.urb.UrbId.{UrbId};
 ghost use Rattle.usb_types.specs.declared.errno.Code.{Code};
 ghost use Rattle.usb_types.specs.declared.outside.Memory.{Memory};
