@@ -40,7 +40,7 @@ use Rattle.usb_machine.specs.declared.event.Event.TheVariants.{Take, Finish, Giv
 use Rattle.usb_machine.specs.declared.event.Answer.{Answer}
 use Rattle.usb_xfer.specs.Moved.{moved}
 use Rattle.usb_side.specs.Round.{GaveBack, is_aside, of_givebacks, given_entries}
-use Rattle.usb_side.specs.Handled.{Gave, Handled, Came, IsOutcome, handled_by, submit_of, rest_entry, asked_entries}
+use Rattle.usb_side.specs.Handled.{Gave, Handled, Handles, Came, IsFaultOf, SaysFaults, handled_by, submit_of, rest_entry, asked_entries}
 
 submit_all : (fault : Option Errno) (u : ℕ) (t : Transfer) (a : Code) → AllAre IsHandlers (submit_of fault u t a)
 submit_all (Some e) u t a = tt
@@ -95,82 +95,71 @@ module _ {X : Type 0} (machine_of : X → Machine) (here : X) where
       ended : (s : B) (u : UrbId) (z : B) → host s ≡ here → (known s).number ≡ SERVER → ends s u z → Made s z (plain_entry SERVER (End u) ∷ [])
       ended s u z m n e = let k = end_is s u z e in fresh_so s z (λ n. plain_entry n (End u) ∷ []) m n k.same k.fresh
 
-      submitted : (s : B) (u : UrbId) (t : Transfer) (r : Option Errno) (z : B) → host s ≡ here → (known s).number ≡ SERVER → submits s u t r z → Made s z (submit_of (fault_at (shape_of g u.0) t) u.0 t (code_in r))
+      submitted : (s : B) (u : UrbId) (t : Transfer) (r : Option Errno) (z : B) → host s ≡ here → (known s).number ≡ SERVER → submits s u t r z
+          → Made s z (submit_of (fault_at (shape_of g u.0) t) u.0 t (code_in r)) × IsFaultOf (fault_at (shape_of g u.0) t) (code_in r)
       submitted s u t r z m n k = let k = submit_is s u t r z k in
-          subst (λ f. Made s z (submit_of (fault_at (shape_of f u.0) t) u.0 t (code_in r))) (ap machine_of m) (go (fault_at (shape_of (machine s) u.0) t) k.submitted)
+          subst (λ f. Made s z (submit_of (fault_at (shape_of f u.0) t) u.0 t (code_in r)) × IsFaultOf (fault_at (shape_of f u.0) t) (code_in r)) (ap machine_of m) (go (fault_at (shape_of (machine s) u.0) t) k.submitted)
         where
-          go : (fault : Option Errno) → SubmitsOr (machine s) (known s) (known z) u.0 t fault r → Made s z (submit_of fault u.0 t (code_in r))
-          go (Some e) l = record { host_so = (submit_is s u t r z k).same ∙ m; machine_so = ap machine_of ((submit_is s u t r z k).same ∙ m); number = l.1.grown.number ∙ n; grown = l.1.grown; sound = subst (λ f. Sound f (known z)) (ap machine_of m) l.1.sound }
-          go None f = fresh_so s z (λ n. submit_entries n u.0 t (code_in r)) m n (submit_is s u t r z k).same f
+          go : (fault : Option Errno) → SubmitsOr (machine s) (known s) (known z) u.0 t fault r → Made s z (submit_of fault u.0 t (code_in r)) × IsFaultOf fault (code_in r)
+          go (Some e) l = (record { host_so = (submit_is s u t r z k).same ∙ m; machine_so = ap machine_of ((submit_is s u t r z k).same ∙ m); number = l.1.grown.number ∙ n; grown = l.1.grown; sound = subst (λ f. Sound f (known z)) (ap machine_of m) l.1.sound }, ap code_in l.0)
+          go None f = (fresh_so s z (λ n. submit_entries n u.0 t (code_in r)) m n (submit_is s u t r z k).same f, tt)
 
-      again_so : (s : B) (u : UrbId) (t : Transfer) (o : Outcome) (z : B) → host s ≡ here → (known s).number ≡ SERVER → Again rests submits u t s o z → (back : Transfer) → Made s z (handled_by g u.0 back t None o) × ((a : Action) (from len : ℕ) → a ≡ action.Again from len → t ≡ windowed from len back → IsOutcome a back t o)
-      again_so s u t _ z m n (Again.accepted _ k) back = (subst (λ xs. Made s z xs) (sym (append-nil (submit_of (fault_at (shape_of g u.0) t) u.0 t Zero))) (submitted s u t None z m n k), λ a from len is w. subst (λ a. IsOutcome a back t (outcome.Again Zero)) (sym is) w)
-      again_so s u t _ z m n (Again.rejected errno c _ k r) back =
-          let a = submitted s u t (Some errno) c m n k in
-          (then_so s c z (submit_of (fault_at (shape_of g u.0) t) u.0 t (Fault errno)) (rest_entry u.0 t ∷ []) a (rested c u t z a.host_so a.number r), λ b from len is w. subst (λ b. IsOutcome b back t (outcome.Again (Fault errno))) (sym is) w)
+      -- what was submitted again, with the answer to that
+      pub record Resent (u : UrbId) (t back : Transfer) (s : B) (o : Outcome) (z : B) : Type 0 where
+        pub answer : Code
+        pub is : outcome.Again answer ≡ o
+        pub made : Made s z (handled_by g u.0 back t None o)
+        pub faults : SaysFaults g u.0 t None o
+
+      again_so : (s : B) (u : UrbId) (t : Transfer) (o : Outcome) (z : B) → host s ≡ here → (known s).number ≡ SERVER → Again rests submits u t s o z → (back : Transfer) → Resent u t back s o z
+      again_so s u t _ z m n (Again.accepted _ k) back = let a = submitted s u t None z m n k in
+          record { answer = Zero; is = refl; made = subst (λ xs. Made s z xs) (sym (append-nil (submit_of (fault_at (shape_of g u.0) t) u.0 t Zero))) a.0; faults = a.1 }
+      again_so s u t _ z m n (Again.rejected errno c _ k r) back = let a = submitted s u t (Some errno) c m n k in
+          record { answer = Fault errno; is = refl; made = then_so s c z (submit_of (fault_at (shape_of g u.0) t) u.0 t (Fault errno)) (rest_entry u.0 t ∷ []) a.0 (rested c u t z a.0.host_so a.0.number r); faults = a.1 }
 
       module _ {K : Type 0} (completes : K → UrbId → Code → Transfer → Result Action Memory → K → Type 0) (asks : K → Option (UrbId × Transfer) → K → Type 0) (unasks : K → Transfer → K → Type 0) where
-        -- what was asked, and the entries of that
-        asks_so : (s : B) (h : K) (o : Outcome) (z : B) (i : K) (m : host s ≡ here) (n : (known s).number ≡ SERVER) → Sound g (known s) → Asks submits asks unasks s h o z i → (u : UrbId) (t : Transfer) (r : B) → Made r s (rest_entry u.0 t ∷ [])
-            → (q : Option (UrbId × Transfer)) × Made r z (handled_by g u.0 t t q o) × IsOutcome action.Ask t t o
-        asks_so s h _ _ _ m n sound (Asks.silent i a) u t r made = (None, made, tt)
-        asks_so s h _ z _ m n sound (Asks.asked v q i _ a k) u t r made = (Some (v, q), then_so r s z (rest_entry u.0 t ∷ []) (submit_of (fault_at (shape_of g v.0) q) v.0 q Zero) made (submitted s v q None z m n k), tt)
-        asks_so s h _ z _ m n sound (Asks.refused v q errno i j _ a k w) u t r made = (Some (v, q), then_so r s z (rest_entry u.0 t ∷ []) (submit_of (fault_at (shape_of g v.0) q) v.0 q (Fault errno)) made (submitted s v q (Some errno) z m n k), tt)
+        -- what the handler did before its end, with its entries
+        pub record Acted (s m : B) (u : UrbId) (code : Code) (t : Transfer) (h : K) (o : Outcome) (k : K) : Type 0 where
+          pub again : Transfer
+          pub asking : Option (UrbId × Transfer)
+          pub handles : Handles completes asks unasks h u code t asking again o k
+          pub faults : SaysFaults g u.0 again asking o
+          pub made : Made s m (handled_by g u.0 t again asking o)
 
-        finish_so : (s m z : B) (u : UrbId) (code : Code) (t : Transfer) (h : K) (o : Outcome) (a : Action) (i : K) (w : Transfer) (q : Option (UrbId × Transfer)) → completes h u code t (Ok a) i → IsOutcome a t w o → Made s m (handled_by g u.0 t w q o) → ends m u z → Handled g completes (known s) (known z) u code t h o
-        finish_so s m z u code t h o a i w q c is made e = let all = then_so s m z (handled_by g u.0 t w q o) (plain_entry SERVER (End u) ∷ []) made (ended m u z made.host_so made.number e) in
-            record { action = a; then_is = i; completed = c; again = w; asking = q; outcome_so = is; grown = all.grown; sound = all.sound }
+        -- what was asked after the transfer rested
+        asks_so : (r s z : B) (u : UrbId) (code : Code) (t : Transfer) (h i k : K) (o : Outcome) → Made r s (rest_entry u.0 t ∷ []) → completes h u code t (Ok action.Ask) i → Asks submits asks unasks s i o z k → Acted r z u code t h o k
+        asks_so r s z u code t h i k _ made c (Asks.silent _ a) = record { again = t; asking = None; handles = Handles.silent i k c a; faults = tt; made = made }
+        asks_so r s z u code t h i k _ made c (Asks.asked v q _ _ a sent) = let l = submitted s v q None z made.host_so made.number sent in
+            record { again = t; asking = Some (v, q); handles = Handles.asked i k v q c a; faults = l.1; made = then_so r s z (rest_entry u.0 t ∷ []) (submit_of (fault_at (shape_of g v.0) q) v.0 q Zero) made l.0 }
+        asks_so r s z u code t h i k _ made c (Asks.refused v q errno j _ _ a sent w) = let l = submitted s v q (Some errno) z made.host_so made.number sent in
+            record { again = t; asking = Some (v, q); handles = Handles.refused i j k v q errno c a w; faults = l.1; made = then_so r s z (rest_entry u.0 t ∷ []) (submit_of (fault_at (shape_of g v.0) q) v.0 q (Fault errno)) made l.0 }
 
-        acts_so : (s m z : B) (u : UrbId) (code : Code) (t : Transfer) (h k : K) (r : Result Outcome Memory) (o : Outcome) → r ≡ Ok o → host s ≡ here → (known s).number ≡ SERVER → Acts rests submits completes asks unasks u code t s h r m k → ends m u z → Handled g completes (known s) (known z) u code t h o
-        acts_so s m z u code t h _ _ o is same server (Acts.rested i _ c rest) e =
-            let x : outcome.Rested ≡ o = cc in
-            subst (λ o. Handled g completes (known s) (known z) u code t h o) x (finish_so s m z u code t h outcome.Rested action.Rest i t None c tt (rested s u t m same server rest) e)
-        acts_so s m z u code t h _ _ o is same server (Acts.again from len i _ p c again) e =
-            let x : p ≡ o = cc in let w = again_so s u (windowed from len t) p m same server again t in
-            subst (λ o. Handled g completes (known s) (known z) u code t h o) x (finish_so s m z u code t h p (action.Again from len) i (windowed from len t) None c (w.1 (action.Again from len) from len refl refl) w.0 e)
-        acts_so s m z u code t h _ _ o is same server (Acts.asking i j b _ p c rest question) e =
-            let x : p ≡ o = cc in let made = rested s u t b same server rest in let w = asks_so b i p m j made.host_so made.number made.sound question u t s made in
-            subst (λ o. Handled g completes (known s) (known z) u code t h o) x (finish_so s m z u code t h p action.Ask i t w.0 c w.2 w.1 e)
-        acts_so s m z u code t h _ _ o is same server (Acts.lacking mem i _ c rest) e = absurd (cc)
+        -- what the handler did before its end, also where it lacks memory
+        abbrev pub ActedBy : (s m : B) (u : UrbId) (code : Code) (t : Transfer) (h : K) (r : Result Outcome Memory) (k : K) → Type 0
+        ActedBy s m u code t h (Ok o) k = Acted s m u code t h o k
+        ActedBy s m u code t h (Err lack) k = completes h u code t (Err lack) k × Made s m (rest_entry u.0 t ∷ [])
 
-        pub handler_so : (s z : B) (u : UrbId) (code : Code) (t : Transfer) (h k : K) (r : Result Outcome Memory) (o : Outcome) → r ≡ Ok o → host s ≡ here → (known s).number ≡ SERVER → Completes rests submits ends completes asks unasks u code t s h r z k → Handled g completes (known s) (known z) u code t h o
-        handler_so s z u code t h k r o is same server c = acts_so s c.middle z u code t h k r o is same server c.acts c.ended
+        acts_so : (s m : B) (u : UrbId) (code : Code) (t : Transfer) (h k : K) (r : Result Outcome Memory) → host s ≡ here → (known s).number ≡ SERVER → Acts rests submits completes asks unasks u code t s h r m k → ActedBy s m u code t h r k
+        acts_so s m u code t h k _ same server (Acts.rested _ _ c rest) = record { again = t; asking = None; handles = Handles.rested k c; faults = tt; made = rested s u t m same server rest }
+        acts_so s m u code t h k _ same server (Acts.again from len _ _ p c again) = let w = again_so s u (windowed from len t) p m same server again t in
+            record { again = windowed from len t; asking = None; handles = subst (λ o. Handles completes asks unasks h u code t None (windowed from len t) o k) w.is (Handles.again from len w.answer k c); faults = w.faults; made = w.made }
+        acts_so s m u code t h k _ same server (Acts.asking i _ b _ p c rest question) = asks_so s b m u code t h i k p (rested s u t b same server rest) c question
+        acts_so s m u code t h k _ same server (Acts.lacking lack _ _ c rest) = (c, rested s u t m same server rest)
 
-        lacks_so : (s m z : B) (u : UrbId) (code : Code) (t : Transfer) (h k : K) (r : Result Outcome Memory) (lack : Memory) → r ≡ Err lack → host s ≡ here → (known s).number ≡ SERVER → Acts rests submits completes asks unasks u code t s h r m k → ends m u z
-            → Grown (known s) (known z) (rest_entry u.0 t ∷ plain_entry SERVER (End u) ∷ []) × Sound g (known z)
-        lacks_so s m z u code t h _ _ lack is same server (Acts.rested i _ c rest) e = absurd (cc)
-        lacks_so s m z u code t h _ _ lack is same server (Acts.again from len i _ p c again) e = absurd (cc)
-        lacks_so s m z u code t h _ _ lack is same server (Acts.asking i j b _ p c rest question) e = absurd (cc)
-        lacks_so s m z u code t h _ _ lack is same server (Acts.lacking mem i _ c rest) e =
-            let made = rested s u t m same server rest in
-            let all = then_so s m z (rest_entry u.0 t ∷ []) (plain_entry SERVER (End u) ∷ []) made (ended m u z made.host_so made.number e) in (all.grown, all.sound)
+        came_by : (s m z : B) (u : UrbId) (code : Code) (t : Transfer) (h k : K) (r : Result Outcome Memory) → ActedBy s m u code t h r k → ends m u z → Came g completes asks unasks (known s) (known z) u code t h r k × (host z ≡ here)
+        came_by s m z u code t h k (Ok o) a e = let all = then_so s m z (handled_by g u.0 t a.again a.asking o) (plain_entry SERVER (End u) ∷ []) a.made (ended m u z a.made.host_so a.made.number e) in
+            (record { again = a.again; asking = a.asking; handles = a.handles; faults = a.faults; grown = all.grown; sound = all.sound }, all.host_so)
+        came_by s m z u code t h k (Err lack) a e = let all = then_so s m z (rest_entry u.0 t ∷ []) (plain_entry SERVER (End u) ∷ []) a.1 (ended m u z a.1.host_so a.1.number e) in
+            (record { completed = a.0; grown = all.grown; sound = all.sound }, all.host_so)
 
-        pub came_so : (s z : B) (u : UrbId) (code : Code) (t : Transfer) (h k : K) (r : Result Outcome Memory) → host s ≡ here → (known s).number ≡ SERVER → Completes rests submits ends completes asks unasks u code t s h r z k → Came g completes (known s) (known z) u code t h r
-        came_so s z u code t h k (Ok o) same server c = handler_so s z u code t h k (Ok o) o refl same server c
-        came_so s z u code t h k (Err lack) same server c = lacks_so s c.middle z u code t h k (Err lack) lack refl same server c.acts c.ended
+        came_here : (s z : B) (u : UrbId) (code : Code) (t : Transfer) (h k : K) (r : Result Outcome Memory) → host s ≡ here → (known s).number ≡ SERVER → Completes rests submits ends completes asks unasks u code t s h r z k → Came g completes asks unasks (known s) (known z) u code t h r k × (host z ≡ here)
+        came_here s z u code t h k r same server c = came_by s c.middle z u code t h k r (acts_so s c.middle u code t h k r same server c.acts) c.ended
 
-        end_made : (s m z : B) (u : UrbId) (xs : List Entry) → Made s m xs → AllAre IsHandlers xs → ends m u z → (more : List Entry) × Made s z more × AllAre IsHandlers more
-        end_made s m z u xs made all e = (xs ++ plain_entry SERVER (End u) ∷ [], then_so s m z xs (plain_entry SERVER (End u) ∷ []) made (ended m u z made.host_so made.number e), all_append IsHandlers xs (plain_entry SERVER (End u) ∷ []) all (tt, tt))
-
-        acts_made : (s m z : B) (u : UrbId) (code : Code) (t : Transfer) (h k : K) (r : Result Outcome Memory) → host s ≡ here → (known s).number ≡ SERVER → Acts rests submits completes asks unasks u code t s h r m k → ends m u z → (more : List Entry) × Made s z more × AllAre IsHandlers more
-        acts_made s m z u code t h _ _ same server (Acts.rested i _ c rest) e = end_made s m z u (rest_entry u.0 t ∷ []) (rested s u t m same server rest) (tt, tt) e
-        acts_made s m z u code t h _ _ same server (Acts.again from len i _ p c again) e =
-            end_made s m z u (handled_by g u.0 t (windowed from len t) None p) (again_so s u (windowed from len t) p m same server again t).0 (handled_all g u.0 t (windowed from len t) None p) e
-        acts_made s m z u code t h _ _ same server (Acts.asking i j b _ p c rest question) e =
-            let made = rested s u t b same server rest in let w = asks_so b i p m j made.host_so made.number made.sound question u t s made in
-            end_made s m z u (handled_by g u.0 t t w.0 p) w.1 (handled_all g u.0 t t w.0 p) e
-        acts_made s m z u code t h _ _ same server (Acts.lacking mem i _ c rest) e = end_made s m z u (rest_entry u.0 t ∷ []) (rested s u t m same server rest) (tt, tt) e
+        pub came_so : (s z : B) (u : UrbId) (code : Code) (t : Transfer) (h k : K) (r : Result Outcome Memory) → host s ≡ here → (known s).number ≡ SERVER → Completes rests submits ends completes asks unasks u code t s h r z k → Came g completes asks unasks (known s) (known z) u code t h r k
+        came_so s z u code t h k r same server c = (came_here s z u code t h k r same server c).0
 
         pub host_stays : (s z : B) (u : UrbId) (code : Code) (t : Transfer) (h k : K) (r : Result Outcome Memory) → host s ≡ here → (known s).number ≡ SERVER → Completes rests submits ends completes asks unasks u code t s h r z k → host z ≡ here
-        host_stays s z u code t h k r same server c = (acts_made s c.middle z u code t h k r same server c.acts c.ended).1.host_so
-
-        -- and the replies so far are the same
-        pub handler_replies : {D : Type 0} (d : Controller D) (so : ℕ → List Reply) (s z : B) (u : UrbId) (code : Code) (t : Transfer) (h k : K) (r : Result Outcome Memory) → host s ≡ here → (known s).number ≡ SERVER → Sound g (known s) → Completes rests submits ends completes asks unasks u code t s h r z k
-            → (n l : ℕ) (P Q : Type 0) (X Y : ℕ → Type 0) → Agrees (side_knows (machine s) (known s) n P X) d → IsSoFar (side_knows (machine s) (known s) n P X) so d.ends.items → IsSoFar (side_knows (machine z) (known z) l Q Y) so d.ends.items
-        handler_replies d so s z u code t h k r same server sound c n l P Q X Y a so_far =
-            let w = acts_made s c.middle z u code t h k r same server c.acts c.ended in
-            subst (λ x. IsSoFar (side_knows (machine_of x) (known z) l Q Y) so d.ends.items) (sym w.1.host_so)
-            (so_over g (known s) (known z) server sound w.1.sound w.0 w.1.grown w.2 n l P Q X Y d so (subst (λ x. Agrees (side_knows (machine_of x) (known s) n P X) d) same a) (subst (λ x. IsSoFar (side_knows (machine_of x) (known s) n P X) so d.ends.items) same so_far))
+        host_stays s z u code t h k r same server c = (came_here s z u code t h k r same server c).1
 
 handlers_given : (xs : List Entry) → AllAre IsHandlers xs → of_givebacks xs ≡ xs
 handlers_given [] a = refl
@@ -181,19 +170,27 @@ handlers_given (x ∷ xs) a = ap (λ b. cond (not b) (x ∷ of_givebacks xs) (of
     go (Finish v c) a is = absurd is
     go _ a is = refl
 
--- with or without memory, a controller and the server agree as before
-pub came_agrees : {K D : Type 0} (g : Machine) (completes : K → UrbId → Code → Transfer → Result Action Memory → K → Type 0) (p q : Known) (u : UrbId) (code : Code) (t : Transfer) (h : K) (r : Result Outcome Memory) (d : Controller D) → p.number ≡ SERVER → Sound g p
-    → Came g completes p q u code t h r → (n l : ℕ) (P Q : Type 0) (X Y : ℕ → Type 0) → Q → Agrees (side_knows g p n P X) d → Agrees (side_knows g q l Q Y) d
-came_agrees g completes p q u code t h (Ok o) d server sound c n l P Q X Y whole a =
-    let all : AllAre IsHandlers (handled_by g u.0 t c.again c.asking o ++ plain_entry SERVER (End u) ∷ []) = all_append IsHandlers (handled_by g u.0 t c.again c.asking o) (plain_entry SERVER (End u) ∷ []) (handled_all g u.0 t c.again c.asking o) (tt, tt) in
-    agrees_over g p q server sound c.sound (handled_by g u.0 t c.again c.asking o ++ plain_entry SERVER (End u) ∷ []) c.grown all n l P Q X Y d whole a
-came_agrees g completes p q u code t h (Err lack) d server sound c n l P Q X Y whole a =
-    agrees_over g p q server sound c.1 (rest_entry u.0 t ∷ plain_entry SERVER (End u) ∷ []) c.0 (tt, (tt, tt)) n l P Q X Y d whole a
+-- the entries that a completion adds, by what it comes to
+came_more : {K : Type 0} (g : Machine) (completes : K → UrbId → Code → Transfer → Result Action Memory → K → Type 0) (asks : K → Option (UrbId × Transfer) → K → Type 0) (unasks : K → Transfer → K → Type 0) (p q : Known) (u : UrbId) (code : Code) (t : Transfer) (h : K) (r : Result Outcome Memory) (k : K)
+    → Came g completes asks unasks p q u code t h r k → (more : List Entry) × Grown p q more × AllAre IsHandlers more × Sound g q
+came_more g completes asks unasks p q u code t h (Ok o) k c =
+    let hs : List Entry = handled_by g u.0 t c.again c.asking o in
+    (hs ++ plain_entry SERVER (End u) ∷ [], c.grown, all_append IsHandlers hs (plain_entry SERVER (End u) ∷ []) (handled_all g u.0 t c.again c.asking o) (tt, tt), c.sound)
+came_more g completes asks unasks p q u code t h (Err lack) k c = (rest_entry u.0 t ∷ plain_entry SERVER (End u) ∷ [], c.grown, (tt, (tt, tt)), c.sound)
+
+-- with or without memory, a controller and the server agree as before, and the replies so far are the same
+module _ {K D : Type 0} (g : Machine) (completes : K → UrbId → Code → Transfer → Result Action Memory → K → Type 0) (asks : K → Option (UrbId × Transfer) → K → Type 0) (unasks : K → Transfer → K → Type 0) (p q : Known) (u : UrbId) (code : Code) (t : Transfer) (h : K) (r : Result Outcome Memory) (k : K) (d : Controller D)
+    (server : p.number ≡ SERVER) (sound : Sound g p) (came : Came g completes asks unasks p q u code t h r k) (n l : ℕ) (P Q : Type 0) (X Y : ℕ → Type 0) where
+  pub came_agrees : Q → Agrees (side_knows g p n P X) d → Agrees (side_knows g q l Q Y) d
+  came_agrees whole a = let w = came_more g completes asks unasks p q u code t h r k came in agrees_over g p q server sound w.3 w.0 w.1 w.2 n l P Q X Y d whole a
+
+  pub came_replies : (so : ℕ → List Reply) → Agrees (side_knows g p n P X) d → IsSoFar (side_knows g p n P X) so d.ends.items → IsSoFar (side_knows g q l Q Y) so d.ends.items
+  came_replies so a is = let w = came_more g completes asks unasks p q u code t h r k came in so_over g p q server sound w.3 w.0 w.1 w.2 n l P Q X Y d so a is
 
 -- a giveback and its handler together
-pub gave_of : {K : Type 0} (g : Machine) (completes : K → UrbId → Code → Transfer → Result Action Memory → K → Type 0) (p m q : Known) (u : UrbId) (status : Code) (t : Transfer) (h : K) (o : Outcome)
-    → GaveBack g p m u.0 status (Some t) → Handled g completes m q u status t h o → Gave g completes p q u status h o
-gave_of g completes p m q u status t h o b d =
+pub gave_of : {K : Type 0} (g : Machine) (completes : K → UrbId → Code → Transfer → Result Action Memory → K → Type 0) (asks : K → Option (UrbId × Transfer) → K → Type 0) (unasks : K → Transfer → K → Type 0) (p m q : Known) (u : UrbId) (status : Code) (t : Transfer) (h : K) (o : Outcome) (k : K)
+    → GaveBack g p m u.0 status (Some t) → Handled g completes asks unasks m q u status t h o k → Gave g completes asks unasks p q u status h o k
+gave_of g completes asks unasks p m q u status t h o k b d =
     let back : Transfer = moved b.shape b.sent b.replies in
     let both : Some t ≡ Some back = b.back in
     let is : t ≡ back = cc in
@@ -219,10 +216,8 @@ gave_of g completes p m q u status t h o b d =
       first = b.first;
       state = b.state;
       whole = b.whole;
-      action = d.action;
-      then_is = d.then_is;
-      completed = subst (λ r. completes h u status r (Ok d.action) d.then_is) is d.completed;
-      outcome_so = subst (λ r. IsOutcome d.action r d.again o) is d.outcome_so;
+      handles = subst (λ r. Handles completes asks unasks h u status r d.asking d.again o k) is d.handles;
+      faults = d.faults;
     }
 
 -- pairs that are the same, part by part

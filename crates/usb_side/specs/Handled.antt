@@ -4,6 +4,7 @@ use Rattle.usb_types.specs.declared.urb.UrbId.{UrbId}
 use Rattle.usb_types.specs.declared.urb.Action.{Action}
 use Rattle.usb_types.specs.declared.urb.Action.TheVariants as action
 use Rattle.usb_types.specs.declared.errno.Code.{Code}
+use Rattle.usb_types.specs.declared.errno.Code.TheVariants.{Zero, Fault}
 use Rattle.usb_types.specs.declared.errno.Errno.{Errno}
 use Rattle.usb_types.specs.declared.outside.Memory.{Memory}
 use Rattle.usb_machine.specs.declared.entry.TheConstants.{SERVER}
@@ -48,32 +49,50 @@ handled_by g u back again asking outcome.Rested = rest_entry u back ∷ []
 handled_by g u back again asking (outcome.Again a) = submit_of (fault_at (shape_of g u) again) u again a ++ (if is_zero a then [] else rest_entry u again ∷ [])
 handled_by g u back again asking (outcome.Asked a) = rest_entry u back ∷ asked_entries g asking a
 
--- the outcome is one of this action
-abbrev pub IsOutcome : Action → Transfer → Transfer → Outcome → Type 0
-IsOutcome action.Rest back again outcome.Rested = Unit {0}
-IsOutcome (action.Again from len) back again (outcome.Again a) = again ≡ windowed from len back
-IsOutcome action.Ask back again outcome.Rested = Unit {0}
-IsOutcome action.Ask back again (outcome.Asked a) = Unit {0}
-IsOutcome _ back again _ = ⊥
+-- an endpoint that does not take the transfer says why
+abbrev pub IsFaultOf : Option Errno → Code → Type 0
+IsFaultOf None a = Unit {0}
+IsFaultOf (Some errno) a = a ≡ Fault errno
 
--- the handler of URB u was told this code and transfer, and came to this outcome
-pub record Handled {K : Type 0} (g : Machine) (completes : K → UrbId → Code → Transfer → Result Action Memory → K → Type 0) (p q : Known) (u : UrbId) (code : Code) (t : Transfer) (h : K) (o : Outcome) : Type 0 where
-  pub action : Action
-  pub then_is : K
-  pub completed : completes h u code t (Ok action) then_is
+-- and so it answers the transfer that is submitted again, and the question
+abbrev pub SaysFaults : Machine → ℕ → Transfer → Option (UrbId × Transfer) → Outcome → Type 0
+SaysFaults g u again asking (outcome.Again a) = IsFaultOf (fault_at (shape_of g u) again) a
+SaysFaults g u again (Some q) (outcome.Asked a) = IsFaultOf (fault_at (shape_of g q.0.0) q.1) a
+SaysFaults g u again asking o = Unit {0}
+
+-- what the handler did with an URB that came back with this code and transfer: the question that it asked, the transfer that was
+-- submitted again, what it came to, and the handler then. The transfer rests or goes again, or it rests and the question is asked,
+-- and taken back where that is refused
+pub data Handles {K : Type 0} (completes : K → UrbId → Code → Transfer → Result Action Memory → K → Type 0) (asks : K → Option (UrbId × Transfer) → K → Type 0) (unasks : K → Transfer → K → Type 0) (old : K) (u : UrbId) (code : Code) (t : Transfer) : Option (UrbId × Transfer) → Transfer → Outcome → K → Type 0 where
+  rested : (new : K) → completes old u code t (Ok action.Rest) new → Handles completes asks unasks old u code t None t outcome.Rested new
+  again : (from len : ℕ) (a : Code) (new : K) → completes old u code t (Ok (action.Again from len)) new → Handles completes asks unasks old u code t None (windowed from len t) (outcome.Again a) new
+  silent : (mid new : K) → completes old u code t (Ok action.Ask) mid → asks mid None new → Handles completes asks unasks old u code t None t outcome.Rested new
+  asked : (mid new : K) (v : UrbId) (q : Transfer) → completes old u code t (Ok action.Ask) mid → asks mid (Some (v, q)) new → Handles completes asks unasks old u code t (Some (v, q)) t (outcome.Asked Zero) new
+  refused : (mid asking new : K) (v : UrbId) (q : Transfer) (errno : Errno) → completes old u code t (Ok action.Ask) mid → asks mid (Some (v, q)) asking → unasks asking q new
+      → Handles completes asks unasks old u code t (Some (v, q)) t (outcome.Asked (Fault errno)) new
+
+-- the handler of URB u was told this code and transfer, came to this outcome, and is then as it is
+pub record Handled {K : Type 0} (g : Machine) (completes : K → UrbId → Code → Transfer → Result Action Memory → K → Type 0) (asks : K → Option (UrbId × Transfer) → K → Type 0) (unasks : K → Transfer → K → Type 0) (p q : Known) (u : UrbId) (code : Code) (t : Transfer) (h : K) (o : Outcome) (new : K) : Type 0 where
   pub again : Transfer
   pub asking : Option (UrbId × Transfer)
-  pub outcome_so : IsOutcome action t again o
+  pub handles : Handles completes asks unasks h u code t asking again o new
+  pub faults : SaysFaults g u.0 again asking o
   pub grown : Grown p q (handled_by g u.0 t again asking o ++ plain_entry SERVER (End u) ∷ [])
   pub sound : Sound g q
 
--- what completing a giveback comes to: where the handler lacks memory, the transfer rests and the handler ends
-abbrev pub Came : {K : Type 0} → Machine → (K → UrbId → Code → Transfer → Result Action Memory → K → Type 0) → Known → Known → UrbId → Code → Transfer → K → Result Outcome Memory → Type 0
-Came g completes p q u code t h (Ok o) = Handled g completes p q u code t h o
-Came g completes p q u code t h (Err m) = Grown p q (rest_entry u.0 t ∷ plain_entry SERVER (End u) ∷ []) × Sound g q
+-- the handler lacked memory: the transfer rests and the handler ends
+pub record Lacked {K : Type 0} (g : Machine) (completes : K → UrbId → Code → Transfer → Result Action Memory → K → Type 0) (p q : Known) (u : UrbId) (code : Code) (t : Transfer) (h : K) (m : Memory) (new : K) : Type 0 where
+  pub completed : completes h u code t (Err m) new
+  pub grown : Grown p q (rest_entry u.0 t ∷ plain_entry SERVER (End u) ∷ [])
+  pub sound : Sound g q
+
+-- what completing a giveback comes to, and the handler then
+abbrev pub Came : {K : Type 0} → Machine → (K → UrbId → Code → Transfer → Result Action Memory → K → Type 0) → (K → Option (UrbId × Transfer) → K → Type 0) → (K → Transfer → K → Type 0) → Known → Known → UrbId → Code → Transfer → K → Result Outcome Memory → K → Type 0
+Came g completes asks unasks p q u code t h (Ok o) new = Handled g completes asks unasks p q u code t h o new
+Came g completes asks unasks p q u code t h (Err m) new = Lacked g completes p q u code t h m new
 
 -- one URB was given back and handled: what stands before it and after it, the transfer that was sent, and how replies moved it
-pub record Gave {K : Type 0} (g : Machine) (completes : K → UrbId → Code → Transfer → Result Action Memory → K → Type 0) (p q : Known) (u : UrbId) (status : Code) (h : K) (o : Outcome) : Type 0 where
+pub record Gave {K : Type 0} (g : Machine) (completes : K → UrbId → Code → Transfer → Result Action Memory → K → Type 0) (asks : K → Option (UrbId × Transfer) → K → Type 0) (unasks : K → Transfer → K → Type 0) (p q : Known) (u : UrbId) (status : Code) (h : K) (o : Outcome) (new : K) : Type 0 where
   pub finished : Bool
   pub shape : Shape
   pub sent : Transfer
@@ -92,12 +111,11 @@ pub record Gave {K : Type 0} (g : Machine) (completes : K → UrbId → Code →
   pub first : finished ≡ true → is_first u.0 (pending_of g before (home_of g u.0)) ≡ true
   pub state : finished ≡ true → moved_state shape sent replies ≡ Ended status
   pub whole : IsWhole shape sent replies
-  pub action : Action
-  pub then_is : K
-  pub completed : completes h u status (moved shape sent replies) (Ok action) then_is
-  pub outcome_so : IsOutcome action (moved shape sent replies) again o
+  pub handles : Handles completes asks unasks h u status (moved shape sent replies) asking again o new
+  pub faults : SaysFaults g u.0 again asking o
 
--- a turn gave nothing back, or one URB, which was handled where there was memory
-abbrev pub Stepped : {K : Type 0} → Machine → (K → UrbId → Code → Transfer → Result Action Memory → K → Type 0) → Known → Known → K → Option (Result Outcome Memory) → Type 0
-Stepped g completes p q h None = GaveNothing g p q
-Stepped g completes p q h (Some r) = (u : UrbId) × (status : Code) × (t : Transfer) × (middle : Known) × GaveBack g p middle u.0 status (Some t) × ((o : Outcome) → r ≡ Ok o → Gave g completes p q u status h o)
+-- a turn gave nothing back, and the handler is as it was. Or it gave one URB back, which was handled where there was memory
+abbrev pub Stepped : {K : Type 0} → Machine → (K → UrbId → Code → Transfer → Result Action Memory → K → Type 0) → (K → Option (UrbId × Transfer) → K → Type 0) → (K → Transfer → K → Type 0) → Known → Known → K → Option (Result Outcome Memory) → K → Type 0
+Stepped g completes asks unasks p q h None new = GaveNothing g p q × (new ≡ h)
+Stepped g completes asks unasks p q h (Some r) new =
+    (u : UrbId) × (status : Code) × (t : Transfer) × (middle : Known) × GaveBack g p middle u.0 status (Some t) × Came g completes asks unasks middle q u status t h r new × ((o : Outcome) → r ≡ Ok o → Gave g completes asks unasks p q u status h o new)

@@ -28,7 +28,7 @@ fn complete_here<H: Serves, R: Wait, K: Handler>(
     ensures same { side.new.host.now ≡ side.old.host.now }
     ensures same_reference { side.new.server.ghost_name ≡ side.old.server.ghost_name }
     ensures urbs { K.asks_with handler.new ≡ K.asks_with handler.old }
-    ensures came { (t : Transfer) → (H.Given.told given).transfer ≡ Some t → Came (H.machine side.old.host.now) K.completes (H.known (H.Server.own side.old.server.now)) (H.known (H.Server.own side.new.server.now)) (record { 0 = (H.Given.told given).urb }) (H.Given.told given).code t handler.old result }
+    ensures came { (t : Transfer) → (H.Given.told given).transfer ≡ Some t → Came (H.machine side.old.host.now) K.completes K.asks K.unasks (H.known (H.Server.own side.old.server.now)) (H.known (H.Server.own side.new.server.now)) (record { 0 = (H.Given.told given).urb }) (H.Given.told given).code t handler.old result handler.new }
 {
     complete(side, given, handler)
 }
@@ -51,7 +51,7 @@ pub fn give_back<H: Serves, R: Wait, K: Handler>(
     ensures here { H.is_of host.now (H.Server.own server.new) }
     ensures whole { IsWholeServer (H.machine host.now) (H.known (H.Server.own server.new)) (H.Server.pending server.new) (H.Server.given server.new) (H.Server.has_room server.new) }
     ensures urbs { K.asks_with handler.new ≡ K.asks_with handler.old }
-    ensures came { (t : Transfer) → (H.Given.told given).transfer ≡ Some t → Came (H.machine host.now) K.completes (H.known (H.Server.own server.old)) (H.known (H.Server.own server.new)) (record { 0 = (H.Given.told given).urb }) (H.Given.told given).code t handler.old result }
+    ensures came { (t : Transfer) → (H.Given.told given).transfer ≡ Some t → Came (H.machine host.now) K.completes K.asks K.unasks (H.known (H.Server.own server.old)) (H.known (H.Server.own server.new)) (record { 0 = (H.Given.told given).urb }) (H.Given.told given).code t handler.old result handler.new }
 {
     let mut side = ServerSide { rt, host, server };
     complete_here(&mut side, given, handler)

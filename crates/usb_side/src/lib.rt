@@ -4,10 +4,12 @@
 mod beginning;
 mod giving;
 mod handlers;
+mod laws;
 mod side;
 mod step;
 
 pub use beginning::begin;
 pub use giving::give_back;
+pub use laws::{a_completion_keeps_the_agreement, a_completion_keeps_the_replies};
 pub use side::HostSide;
 pub use step::{one_step, turn_once};

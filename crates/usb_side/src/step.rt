@@ -40,7 +40,7 @@ pub fn one_step<H: Serves, R: Wait, D: Device, K: Handler>(
     ensures agrees { Agrees (side_knows (H.machine side.new.host.now) (H.known (H.Server.own side.new.server)) (H.Server.given side.new.server) (IsWholeSide (H.machine side.new.host.now) (H.is_of side.new.host.now (H.Server.own side.new.server)) (H.known (H.Server.own side.new.server)) (H.Server.pending side.new.server) (H.Server.given side.new.server) (H.Server.has_room side.new.server)) (H.is_settled side.new.host.now side.new.server)) controller.new }
     ensures same { side.new.host.now ≡ side.old.host.now }
     ensures urbs { K.asks_with handler.new ≡ K.asks_with handler.old }
-    ensures stepped { Stepped (H.machine side.old.host.now) K.completes (H.known (H.Server.own side.old.server)) (H.known (H.Server.own side.new.server)) handler.old result }
+    ensures stepped { Stepped (H.machine side.old.host.now) K.completes K.asks K.unasks (H.known (H.Server.own side.old.server)) (H.known (H.Server.own side.new.server)) handler.old result handler.new }
 {
     let Turn {
         given,

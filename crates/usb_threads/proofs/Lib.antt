@@ -12,3 +12,4 @@ pub mod Closed
 pub mod Together
 pub mod Back
 pub mod Going
+pub mod Handlers

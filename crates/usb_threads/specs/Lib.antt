@@ -5,3 +5,4 @@ pub mod Apt
 pub mod Serving
 pub mod Promises
 pub mod NextCall
+pub mod Words

@@ -49,14 +49,18 @@ returns-in-Some-clause-stepped g c =
     let t = gave_transfer m p q told.urb told.code told.transfer back in
     let gave : GaveBack m p q told.urb told.code (Some t.0) = subst (λ r. GaveBack m p q told.urb told.code r) t.1 back in
     let z : Known = g.H.Host.known (g.H.Server.Token.own c.give_back.new.server) in
-    let came : Came m g.K.Handler.completes q z record { 0 = told.urb } told.code t.0 c.args.handler.now c.give_back.result
-    = subst (λ k. Came (g.H.Host.machine k) g.K.Handler.completes q z record { 0 = told.urb } told.code t.0 c.args.handler.now c.give_back.result) c.turn_once-given.ensures.same (c.give_back.ensures.came t.0 t.1) in (
+    let k = g.K.Handler in
+    let new = c.give_back.new.handler in
+    let came : Came m k.completes k.asks k.unasks q z record { 0 = told.urb } told.code t.0 c.args.handler.now c.give_back.result new
+    = subst (λ x. Came (g.H.Host.machine x) k.completes k.asks k.unasks q z record { 0 = told.urb } told.code t.0 c.args.handler.now c.give_back.result new) c.turn_once-given.ensures.same (c.give_back.ensures.came t.0 t.1) in (
       record { 0 = told.urb },
       told.code,
       t.0,
       q,
       gave,
-      λ o is. gave_of m g.K.Handler.completes p q z record { 0 = told.urb } told.code t.0 c.args.handler.now o gave (subst (Came m g.K.Handler.completes q z record { 0 = told.urb } told.code t.0 c.args.handler.now) is came),
+      came,
+      λ o is. gave_of m k.completes k.asks k.unasks p q z record { 0 = told.urb } told.code t.0 c.args.handler.now o new gave
+          (subst (λ r. Came m k.completes k.asks k.unasks q z record { 0 = told.urb } told.code t.0 c.args.handler.now r new) is came),
     )
 
 pub returns-in-Some-clause-agrees : goal.returns-in-Some-clause-agrees
@@ -70,6 +74,6 @@ returns-in-Some-clause-agrees g c =
     let t = gave_transfer m p q told.urb told.code told.transfer back in
     let z : Known = g.H.Host.known (g.H.Server.Token.own c.give_back.new.server) in
     let whole = c.turn_once-given.ensures.agrees.whole in
-    came_agrees k g.K.Handler.completes q z record { 0 = told.urb } told.code t.0 c.args.handler.now c.give_back.result c.turn_once-given.new.controller whole.whole.number whole.sound (c.give_back.ensures.came t.0 t.1)
+    came_agrees k g.K.Handler.completes g.K.Handler.asks g.K.Handler.unasks q z record { 0 = told.urb } told.code t.0 c.args.handler.now c.give_back.result c.give_back.new.handler c.turn_once-given.new.controller whole.whole.number whole.sound (c.give_back.ensures.came t.0 t.1)
     _ (g.H.Server.ServerToken.given c.give_back.new.server) _ _ _ (λ u. g.H.Serves.is_settled c.turn_once-given.new.side.host.now c.give_back.new.server u)
     (record { here = c.give_back.ensures.here; whole = c.give_back.ensures.whole; sound = g.met.H.Host.sound c.turn_once-given.new.side.host.now (g.H.Server.Token.own c.give_back.new.server) c.give_back.ensures.here }) c.turn_once-given.ensures.agrees
