@@ -4,3 +4,4 @@ pub mod Scripts
 pub mod Serving
 pub mod Promises
 pub mod NextCall
+pub mod Turning
