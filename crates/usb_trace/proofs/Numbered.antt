@@ -27,12 +27,9 @@ module _ (owners : List (Option Owner)) (u : ℕ) where
   numbers_more : (d : Option Owner) → u < length owners → numbers_before owners (u + 1) ≡ numbers_before owners u + cond (is_numbered_by (get_or owners u d)) 1 0
   numbers_more d near = ap (count_by is_numbered_by) (take_more owners u d near) ∙ sum_by_push (λ o. cond (is_numbered_by o) 1 0) (take u owners) (get_or owners u d)
 
-  pub number_next : (o : Option Owner) (number more : ℕ) → o ≡ get_or owners u o → u < length owners → number ≡ 2000000 + numbers_before owners u → more ≡ cond (is_numbered_by o) 1 0
+  pub number_next : (number more : ℕ) → u < length owners → number ≡ 2000000 + numbers_before owners u → more ≡ cond (is_numbered_by (get_or owners u None)) 1 0
       → number + more ≡ 2000000 + numbers_before owners (u + 1)
-  number_next o number more at near is adds =
-      let next : numbers_before owners (u + 1) ≡ numbers_before owners u + cond (is_numbered_by o) 1 0
-      = numbers_more o near ∙ ap (λ r. numbers_before owners u + cond (is_numbered_by r) 1 0) (sym at) in
-      omega arith
+  number_next number more near is adds = let next = numbers_more None near in omega arith
 
   pub numbers_few : u ≤ length owners → numbers_before owners u ≤ u
   numbers_few near = let most = count_by-le-length is_numbered_by (take u owners) in let long = length-take-le u owners near in omega arith

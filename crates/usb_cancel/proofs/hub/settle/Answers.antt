@@ -20,4 +20,4 @@ returns-clause-since g c =
     let own = g.H.Hub.Token.own in
     let host = c.args.host.now in
     since_longer _ _ _ _ c.args.urb.0 c.claim.result c.see.ensures.fresh.grown.begins
-    (has_claimed (g.H.Host.machine host) (known (own c.see.new.hub)) (known (own c.claim.new.hub)) c.args.urb.0 c.claim.result (g.H.Host.sound host (own c.see.new.hub) c.see.ensures.here) c.claim.ensures.fresh c.claim.ensures.rested)
+    (has_claimed (g.H.Host.machine host) (known (own c.see.new.hub)) (known (own c.claim.new.hub)) c.args.urb.0 c.claim.result (g.met.H.Host.sound host (own c.see.new.hub) c.see.ensures.here) c.claim.ensures.fresh c.claim.ensures.rested)

@@ -27,7 +27,7 @@ pub returns-clause-claimed : goal.returns-clause-claimed
 returns-clause-claimed g c =
     let known = g.H.Host.known in
     let host = c.args.host.now in
-    (has_claimed (g.H.Host.machine host) (known c.wait_quiet.new.pass) (known c.claim.new.pass) c.args.urb.0 c.claim.result (g.H.Host.sound host c.wait_quiet.new.pass c.wait_quiet.ensures.here) c.claim.ensures.fresh c.claim.ensures.rested).claimed
+    (has_claimed (g.H.Host.machine host) (known c.wait_quiet.new.pass) (known c.claim.new.pass) c.args.urb.0 c.claim.result (g.met.H.Host.sound host c.wait_quiet.new.pass c.wait_quiet.ensures.here) c.claim.ensures.fresh c.claim.ensures.rested).claimed
 
 pub returns-clause-since : goal.returns-clause-since
 returns-clause-since g c =
@@ -35,4 +35,4 @@ returns-clause-since g c =
     let host = c.args.host.now in
     let old = grown_more _ _ _ _ _ (grown_more _ _ _ _ _ c.reject.ensures.fresh.grown c.unlink.ensures.fresh.grown) c.wait_quiet.ensures.fresh.grown in
     since_longer _ _ _ _ c.args.urb.0 c.claim.result old.begins
-    (has_claimed (g.H.Host.machine host) (known c.wait_quiet.new.pass) (known c.claim.new.pass) c.args.urb.0 c.claim.result (g.H.Host.sound host c.wait_quiet.new.pass c.wait_quiet.ensures.here) c.claim.ensures.fresh c.claim.ensures.rested)
+    (has_claimed (g.H.Host.machine host) (known c.wait_quiet.new.pass) (known c.claim.new.pass) c.args.urb.0 c.claim.result (g.met.H.Host.sound host c.wait_quiet.new.pass c.wait_quiet.ensures.here) c.claim.ensures.fresh c.claim.ensures.rested)

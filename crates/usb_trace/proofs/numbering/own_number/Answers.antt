@@ -12,7 +12,7 @@ loop-u-init c = (refl, omega arith)
 pub overflow_add-number : goal.overflow_add-number
 overflow_add-number c =
     let owners = c.args.owners.now in
-    let next = number_next owners c.loop-u.u c.index-owners-u.result c.loop-u.number c.numbers-number.result c.index-owners-u.is c.loop-u-test.true c.loop-u.invariant.0 c.numbers-number.ensures in
+    let next = number_next owners c.loop-u.u c.loop-u.number c.numbers-number.result c.loop-u-test.true c.loop-u.invariant.0 c.numbers-number.ensures in
     let near = c.loop-u-test.true in
     let most = numbers_few owners (c.loop-u.u + 1) (omega arith) in
     let few = c.requires in
@@ -23,7 +23,7 @@ loop-u-preserved c =
     let near = c.loop-u.invariant.1 in
     let off = c.if-u-urb.false in
     let next : c.loop-u.u + 1 ≤ c.in-Some.field-0.0 = grind arith in
-    (number_next c.args.owners.now c.loop-u.u c.index-owners-u.result c.loop-u.number c.numbers-number.result c.index-owners-u.is c.loop-u-test.true c.loop-u.invariant.0 c.numbers-number.ensures, next)
+    (number_next c.args.owners.now c.loop-u.u c.loop-u.number c.numbers-number.result c.loop-u-test.true c.loop-u.invariant.0 c.numbers-number.ensures, next)
 
 pub returns-after-loop-u : goal.returns-after-loop-u
 returns-after-loop-u c =

@@ -23,7 +23,7 @@ returns-clause-poisoned g c =
     let s = c.args.self.now.plan.scene.now in let fits = c.requires.here.fits in
     let p = known c.args.seat.now in let q = known c.poison.new.seat in
     let f = c.poison.ensures.fresh in let rest = c.poison.result in
-    let sound = seat_sound (h.machine host) (h.is_of host) h.known g.H.Hub.Token.own g.H.Hub.HubToken.flags g.H.Hub.HubToken.has_room (h.sound host) c.args.seat.now c.requires.here.holds in
+    let sound = seat_sound (h.machine host) (h.is_of host) h.known g.H.Hub.Token.own g.H.Hub.HubToken.flags g.H.Hub.HubToken.has_room (g.met.H.Host.sound host) c.args.seat.now c.requires.here.holds in
     let told = c.number_in.ensures in (
       f.0,
       rest,

@@ -41,7 +41,7 @@ returns-clause-down g c =
     IfOk-weaker c.take_down.result _ _ (λ done down.
     let us = range_with_len 0 c.args.self.now.plan.urbs in
     let is : us ≡ below (urb_count s) = range_below c.args.self.now.plan.urbs ∙ ap below counted in
-    let sound = seat_sound (h.machine host) (h.is_of host) h.known g.H.Hub.Token.own g.H.Hub.HubToken.flags g.H.Hub.HubToken.has_room (h.sound host) c.args.seat.now c.requires.here.holds in
+    let sound = seat_sound (h.machine host) (h.is_of host) h.known g.H.Hub.Token.own g.H.Hub.HubToken.flags g.H.Hub.HubToken.has_room (g.met.H.Host.sound host) c.args.seat.now c.requires.here.holds in
     let long : length us ≡ c.args.self.now.plan.urbs = length-range_with_len 0 c.args.self.now.plan.urbs in
     let rests_long : length down.rests ≡ length us = down.each.1 ∙ sym long in
     let claims = claims_grew (h.machine host) p q _ sound c.take_down.ensures.sound down.grown us down.rests
