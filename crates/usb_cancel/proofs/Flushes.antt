@@ -20,8 +20,9 @@ use Rattle.usb_machine.specs.Fresh.{Known, Grown, Sound, EndsWith, Fresh}
 use mathlib.Core.Logic.{dite}
 use native.Mathlib.Decide.{ℕ_discrete}
 use Rattle.std.proofs.lemmas.List.{get_or-set_same, get_or-set_other}
-use Rattle.usb_machine.specs.HostCalls.{number_of, HasClaimed}
-use Rattle.usb_cancel.proofs.Stopping.{claimed_later}
+use Rattle.usb_machine.specs.HostCalls.{number_of}
+use Rattle.usb_cancel.specs.Stops.{ClaimedSince}
+use Rattle.usb_cancel.proofs.Stopping.{since_later, since_longer}
 use Rattle.usb_machine.proofs.Growing.{grown_none, grown_more}
 use Rattle.usb_cancel.specs.Flushing.{ids, Has, AreApart, AreFlagged, AreUnflagged, AreHeld, AreKept, Marked, flags_of, numbers_of}
 
@@ -49,7 +50,7 @@ pub record Settling (g : Machine) (p q : Known) (all rest : List ℕ) (i : ℕ) 
   pub held : AreHeld q.mine all
   pub kept : (v : ℕ) → Has all v → (keeps q.mine v ≡ true) ⊎ Has rest v
   pub last : (i ≡ 0) ⊎ (Sound g q × EndsWith q.seen done)
-  pub claims : (j : ℕ) → j < i → HasClaimed q.seen q.number (get_or all j 0) (get_or rests j None)
+  pub claims : (j : ℕ) → j < i → ClaimedSince p.seen q.seen q.number (get_or all j 0) (get_or rests j None)
 
 -- a flag of u is set, and no other
 held_flag : (m : List Entry) (n u v : ℕ) (f : FlagName) → (held_of (m ++ plain_entry n (Flag record { 0 = u } f) ∷ []) v).flags ≡ cond (eqb u v) (with_flag f true (held_of m v).flags) (held_of m v).flags
@@ -135,7 +136,7 @@ take_set (y ∷ ys) (suc i) x lt = ap (λ k. take k (y ∷ set ys i x)) (suc_mor
 pub ends_more : (h done more : List Entry) → EndsWith h more → EndsWith h (done ++ more)
 ends_more h done more e = record { before = e.before; others = done ++ e.others; last = e.last; ends = e.ends; entries = ap (λ l. done ++ l) e.entries ∙ sym (append_assoc done e.others (e.last ∷ [])) }
 
-pub settle_next : (g : Machine) (p q r : Known) (all rest : List ℕ) (u i : ℕ) (rests : List (Option Transfer)) (t : Option Transfer) → i < length rests → u ≡ get_or all i 0 → Settling g p q all (u ∷ rest) i rests → Fresh g q r (claim_entries q.number u (number_of t)) → HasClaimed r.seen r.number u t → Settling g p r all rest (i + 1) (set rests i t)
+pub settle_next : (g : Machine) (p q r : Known) (all rest : List ℕ) (u i : ℕ) (rests : List (Option Transfer)) (t : Option Transfer) → i < length rests → u ≡ get_or all i 0 → Settling g p q all (u ∷ rest) i rests → Fresh g q r (claim_entries q.number u (number_of t)) → ClaimedSince q.seen r.seen r.number u t → Settling g p r all rest (i + 1) (set rests i t)
 settle_next g p q r all rest u i rests t lt at l step claimed =
     let xs : List Entry = claim_entries q.number u (number_of t) in
     let same : xs ≡ claim_entries p.number u (number_of t) = ap (λ n. claim_entries n u (number_of t)) l.grown.number in
@@ -157,9 +158,9 @@ settle_next g p q r all rest u i rests t lt at l step claimed =
           (l.kept v h);
       last = inr (step.sound, ends_more r.seen l.done xs step.ends);
       claims = λ j lj. dite (ℕ_discrete j i)
-          (λ same. subst (λ k. HasClaimed r.seen r.number (get_or all k 0) (get_or (set rests i t) k None)) (sym same)
-          (subst (λ v. HasClaimed r.seen r.number v (get_or (set rests i t) i None)) at (subst (HasClaimed r.seen r.number u) (sym (get_or-set_same rests i t None lt)) claimed)))
-          (λ off. subst (HasClaimed r.seen r.number (get_or all j 0)) (sym (get_or-set_other rests i j t None off)) (claimed_later q r xs (get_or all j 0) (get_or rests j None) step.grown (l.claims j (below j i lj off))));
+          (λ same. subst (λ k. ClaimedSince p.seen r.seen r.number (get_or all k 0) (get_or (set rests i t) k None)) (sym same)
+          (subst (λ v. ClaimedSince p.seen r.seen r.number v (get_or (set rests i t) i None)) at (subst (ClaimedSince p.seen r.seen r.number u) (sym (get_or-set_same rests i t None lt)) (since_longer p.seen q.seen r.seen r.number u t l.grown.begins claimed))))
+          (λ off. subst (ClaimedSince p.seen r.seen r.number (get_or all j 0)) (sym (get_or-set_other rests i j t None off)) (since_later p.seen q r xs (get_or all j 0) (get_or rests j None) step.grown (l.claims j (below j i lj off))));
     }
   where
     below : (j i : ℕ) → j < i + 1 → j ≢ i → j < i

@@ -9,6 +9,7 @@ ghost use Rattle.usb_machine.specs.Parts.{held_of, holds_any, keeps};
 ghost use Rattle.usb_machine.specs.Fresh.{Fresh, Grown, Sound, EndsWith};
 ghost use Rattle.usb_machine.specs.HostCalls.{IsUrb, HasClaimed, RestedBeforeLast, number_of};
 ghost use Rattle.usb_machine.specs.Tokens.{IsWholeHub};
+ghost use Rattle.usb_cancel.specs.Stops.{ClaimedSince};
 ghost use Rattle.usb_cancel.specs.Flushing.{ids, AreApart, AreUnflagged, AreFlagged, AreHeld, AreKept, Marked, flags_of, numbers_of};
 
 use crate::stops::wait_quiet;
@@ -63,7 +64,7 @@ fn settle<H: Host, R: Wait>(rt: &R, host: &H, hub: &mut H::Hub, urb: UrbId) -> O
     ensures here { H.is_of host.now (H.Hub.own hub.new) }
     ensures whole { IsWholeHub (H.machine host.now) (H.known (H.Hub.own hub.new)) (H.Hub.flags hub.new) (H.Hub.has_room hub.new) }
     ensures fresh { Fresh (H.machine host.now) (H.known (H.Hub.own hub.old)) (H.known (H.Hub.own hub.new)) (claim_entries (H.known (H.Hub.own hub.old)).number urb.0 (number_of result)) }
-    ensures claimed { HasClaimed (H.known (H.Hub.own hub.new)).seen (H.known (H.Hub.own hub.new)).number urb.0 result }
+    ensures since { ClaimedSince (H.known (H.Hub.own hub.old)).seen (H.known (H.Hub.own hub.new)).seen (H.known (H.Hub.own hub.new)).number urb.0 result }
 {
     see(rt, host, hub, urb);
     claim(rt, host, hub, urb)
@@ -131,7 +132,7 @@ pub(crate) fn settle_all<H: Host, R: Wait>(
     ensures grown { Grown (H.known (H.Hub.own hub.old)) (H.known (H.Hub.own hub.new)) (claims_of (H.known (H.Hub.own hub.old)).number (ids urbs.now) (numbers_of rests.new)) }
     ensures last { (urbs.now ≡ []) ⊎ (Sound (H.machine host.now) (H.known (H.Hub.own hub.new)) × EndsWith (H.known (H.Hub.own hub.new)).seen (claims_of (H.known (H.Hub.own hub.old)).number (ids urbs.now) (numbers_of rests.new))) }
     ensures kept { AreKept (H.known (H.Hub.own hub.new)).mine (ids urbs.now) }
-    ensures claimed { (i : ℕ) → i < length urbs.now → HasClaimed (H.known (H.Hub.own hub.new)).seen (H.known (H.Hub.own hub.new)).number (get_or (ids urbs.now) i 0) (get_or rests.new i None) }
+    ensures since { (i : ℕ) → i < length urbs.now → ClaimedSince (H.known (H.Hub.own hub.old)).seen (H.known (H.Hub.own hub.new)).seen (H.known (H.Hub.own hub.new)).number (get_or (ids urbs.now) i 0) (get_or rests.new i None) }
 {
     for i in 0..urbs.len() {
         rests[i] = settle(rt, host, hub, urbs[i]);
@@ -158,6 +159,7 @@ pub fn flush<H: Host, R: Wait>(
     ensures entries { (answers : List Code) × (length answers ≡ length urbs.now) × Grown (H.known (H.Hub.own hub.old)) (H.known (H.Hub.own hub.new)) (flush_entries (H.known (H.Hub.own hub.old)).number flag (ids urbs.now) answers (numbers_of rests.new)) }
     ensures fresh { (urbs.now ≡ []) ⊎ ((answers : List Code) × (length answers ≡ length urbs.now) × Fresh (H.machine host.now) (H.known (H.Hub.own hub.old)) (H.known (H.Hub.own hub.new)) (flush_entries (H.known (H.Hub.own hub.old)).number flag (ids urbs.now) answers (numbers_of rests.new))) }
     ensures claimed { (i : ℕ) → i < length urbs.now → HasClaimed (H.known (H.Hub.own hub.new)).seen (H.known (H.Hub.own hub.new)).number (get_or (ids urbs.now) i 0) (get_or rests.new i None) }
+    ensures since { (i : ℕ) → i < length urbs.now → ClaimedSince (H.known (H.Hub.own hub.old)).seen (H.known (H.Hub.own hub.new)).seen (H.known (H.Hub.own hub.new)).number (get_or (ids urbs.now) i 0) (get_or rests.new i None) }
     ensures kept { AreKept (H.known (H.Hub.own hub.new)).mine (ids urbs.now) }
 {
     flag_all(rt, host, hub, urbs, flag);

@@ -6,7 +6,7 @@ ghost use Rattle.usb_machine.specs.Parts.{held_of, keeps};
 ghost use Rattle.usb_machine.specs.Calls.{plain_entry, kill_entries, poison_entries};
 ghost use Rattle.usb_machine.specs.Fresh.{Fresh};
 ghost use Rattle.usb_machine.specs.HostCalls.{IsUrb, HasClaimed, number_of};
-ghost use Rattle.usb_cancel.specs.Stops.{stop_entries};
+ghost use Rattle.usb_cancel.specs.Stops.{stop_entries, ClaimedSince};
 
 use std::sync::Wait;
 use std::thread;
@@ -56,6 +56,7 @@ pub fn poison<H: Host, R: Wait>(
     ensures here { H.is_of host.now pass.new }
     ensures fresh { (a : Code) × Fresh (H.machine host.now) (H.known pass.old) (H.known pass.new) (poison_entries (H.known pass.old).number urb.0 a (number_of result)) }
     ensures claimed { HasClaimed (H.known pass.new).seen (H.known pass.new).number urb.0 result }
+    ensures since { ClaimedSince (H.known pass.old).seen (H.known pass.new).seen (H.known pass.new).number urb.0 result }
     ensures kept { keeps (H.known pass.new).mine urb.0 ≡ true }
 {
     host.reject(rt, pass, urb);
@@ -72,6 +73,7 @@ pub fn kill<H: Host, R: Wait>(rt: &R, host: &H, pass: &mut H::Pass, urb: UrbId) 
     ensures here { H.is_of host.now pass.new }
     ensures fresh { (a : Code) × Fresh (H.machine host.now) (H.known pass.old) (H.known pass.new) (kill_entries (H.known pass.old).number urb.0 a (number_of result)) }
     ensures claimed { HasClaimed (H.known pass.new).seen (H.known pass.new).number urb.0 result }
+    ensures since { ClaimedSince (H.known pass.old).seen (H.known pass.new).seen (H.known pass.new).number urb.0 result }
 {
     let rest = poison(rt, host, pass, urb);
     host.withdraw(rt, pass, urb);

@@ -18,7 +18,6 @@ pub mod Devices
 pub mod Pendings
 pub mod Stepping
 pub mod Taking
-pub mod Homes
 pub mod Resending
 pub mod Givebacks
 pub mod Parts
@@ -53,7 +52,6 @@ pub mod Stopping
 pub mod Showing
 pub mod Awake
 pub mod Opening
-pub mod Numbered
 pub mod Posing
 pub mod Waiting
 pub mod Killing

@@ -1,17 +1,14 @@
 -- The run's object before the first call.
-use Rattle.std.proofs.Common.{ℕ, zero, suc, ◌≡◌, ◌+◌, ◌<◌, ◌⊎◌, inl, inr, ⊎_elim, Bool, true, false, Option, Some, None, List, [], ◌∷◌, ◌++◌, length, take, get_or, map, refl, sym, ap, ◌∙◌, subst, arith, append-nil, length-append, true≢false, Bor}
-use Rattle.std.specs.Prelude.{slice_get, option_copied}
-use Rattle.std.specs.Slice.{IsItemAt}
-use Rattle.std.proofs.lemmas.List.{take_more, length-take-le}
-use Rattle.std.proofs.lemmas.Option.{slice_get-get_or, slice_get_within, slice_get_past, slice_get_read, unwrap_or-slice_get}
+use Rattle.std.proofs.Common.{ℕ, ◌≡◌, ◌+◌, ◌<◌, Bool, true, false, Option, Some, None, List, [], ◌∷◌, ◌++◌, length, take, get_or, map, refl, sym, ap, ◌∙◌, subst, arith, append-nil, length-append, true≢false}
+use Rattle.std.specs.Prelude.{slice_get}
+use Rattle.std.proofs.lemmas.List.{take_more}
+use Rattle.std.proofs.lemmas.Option.{slice_get-get_or, slice_get_within}
 use Rattle.usb_machine.specs.declared.layout.Shape.{Shape}
 use Rattle.usb_machine.specs.History.{or_zero}
 use Rattle.usb_machine.specs.Plain.{Stands}
 use Rattle.usb_device.specs.declared.scripted.Scripted.{Scripted}
 use Rattle.usb_device.specs.Device.{questions_at, Call}
-use Rattle.usb_bind.specs.declared.bound.Bound.{Bound}
-use Rattle.usb_class.specs.declared.class_core.Core.{Core}
-use Rattle.usb_class.specs.Core.{IsCore}
+use Rattle.usb_class.specs.declared.owner.Owner.{Owner}
 use Rattle.usb_xfer.specs.Replies.{Question}
 use Rattle.usb_scene.specs.declared.scene.Scene.{Scene}
 use Rattle.usb_scene.specs.declared.scene.SceneDevice.{SceneDevice}
@@ -22,46 +19,24 @@ use Rattle.usb_line.specs.declared.run.EndRow.{EndRow}
 use Rattle.usb_line.specs.declared.run.LineRun.{LineRun}
 use Rattle.usb_prepare.specs.Ends.{control_end, shapes_of, shape_at, or_control, raw_in, is_raw_at}
 use Rattle.usb_prepare.specs.Layout.{homes_of, urb_count}
-use Rattle.usb_prepare.specs.Prepared.{bindings_of, ids_of}
-use Rattle.usb_trace.specs.Plan.{machine_of, owner_of, again_in, origin_by, origin_of}
+use Rattle.usb_trace.specs.Plan.{machine_of, owner_of, again_in}
+use Rattle.usb_trace.specs.NewCores.{owners_of}
 use Rattle.usb_prepare.specs.Below.{below}
 use Rattle.usb_line.specs.Line.{at_start}
 use Rattle.usb_line.specs.Shows.{ShowsUrb, ShowsEnd, ShowsDevice, Shows, asked_now}
 use Rattle.usb_trace.specs.Handlers.{ShowsCores}
-use Rattle.usb_line.specs.Opened.{IsNewEnd, AreNewEnds, origin_in, IsNewCore, AreNewCores, new_urb}
+use Rattle.usb_line.specs.Opened.{IsNewEnd, AreNewEnds, new_urb}
 use Rattle.usb_trace.specs.Due.{heard_before}
 use Rattle.usb_prepare.specs.Bindings.{HaveHeard}
 use Rattle.usb_prepare.specs.Prepared.{probes_of}
 use Rattle.usb_prepare.specs.Ready.{AreReady}
 use Rattle.usb_line.proofs.Calm.{calm_empty, linked_empty}
 use Rattle.usb_trace.proofs.CoresSeen.{some_at}
-use Rattle.usb_line.proofs.Numbered.{number_is}
-use Rattle.usb_prepare.proofs.Below.{map_below-suc, length-map_below, is-map_below}
+use Rattle.usb_trace.proofs.NewCoresShown.{pairs_longer}
+use Rattle.usb_prepare.proofs.Below.{map_below-suc, length-map_below, is-map_below, get-map_below}
 use Rattle.usb_prepare.proofs.Facts.{few_ends, unhalted_before}
 use Rattle.usb_line.proofs.Asked.{asked_idle}
 use Rattle.usb_line.proofs.Devices.{ruled_at, packets_at}
-
--- what stands in a list with one item more
-in_longer : {X : Type 0} (xs : List X) (x z : X) (i : ℕ) → slice_get (xs ++ x ∷ []) i ≡ Some z → (slice_get xs i ≡ Some z) ⊎ ((i ≡ length xs) × (z ≡ x))
-in_longer [] x z zero e = let same : z ≡ x = cc in inr (refl, same)
-in_longer [] x z (suc i) e = cc
-in_longer (y ∷ xs) x z zero e = inl e
-in_longer (y ∷ xs) x z (suc i) e = ⊎_elim (λ (l : slice_get xs i ≡ Some z). inl l) (λ (r : (i ≡ length xs) × (z ≡ x)). inr (ap (λ k. suc k) r.0, r.1)) (in_longer xs x z i e)
-
--- two lists of one length, and what holds of the items at each place
-pub pairs_longer : {X Y : Type 0} (P : ℕ → X → Y → Type 0) (xs : List X) (ys : List Y) (x : X) (y : Y) → length ys ≡ length xs
-    → ((k : ℕ) (v : X) (w : Y) → slice_get xs k ≡ Some v → slice_get ys k ≡ Some w → P k v w) → P (length xs) x y
-    → (k : ℕ) (v : X) (w : Y) → slice_get (xs ++ x ∷ []) k ≡ Some v → slice_get (ys ++ y ∷ []) k ≡ Some w → P k v w
-pairs_longer P xs ys x y same old new k v w p q = ⊎_elim
-    (λ (l : slice_get xs k ≡ Some v). ⊎_elim
-    (λ (m : slice_get ys k ≡ Some w). old k v w l m)
-    (λ (r : (k ≡ length ys) × (w ≡ y)). let near = slice_get_within xs k v l in let at = r.0 in absurd (omega arith))
-    (in_longer ys y w k q))
-    (λ (l : (k ≡ length xs) × (v ≡ x)). ⊎_elim
-    (λ (m : slice_get ys k ≡ Some w). let near = slice_get_within ys k w m in let at = l.0 in absurd (omega arith))
-    (λ (r : (k ≡ length ys) × (w ≡ y)). subst (λ n. P n v w) (sym l.0) (subst (λ v. P (length xs) v w) (sym l.1) (subst (P (length xs) x) (sym r.1) new)))
-    (in_longer ys y w k q))
-    (in_longer xs x v k p)
 
 one_more : (xs : List Shape) (ys : List EndRow) (x : Shape) (y : EndRow) → AreNewEnds xs ys → IsNewEnd x y → AreNewEnds (xs ++ x ∷ []) (ys ++ y ∷ [])
 one_more xs ys x y old new = record {
@@ -75,34 +50,18 @@ pub ends_longer : (shapes : List Shape) (i : ℕ) (d : Shape) (old new : List En
 ends_longer shapes i d old new end near are is e =
     subst (AreNewEnds (take (i + 1) shapes)) (sym e) (subst (λ l. AreNewEnds l (old ++ end ∷ [])) (sym (take_more shapes i d near)) (one_more (take i shapes) old (get_or shapes i d) end are is))
 
--- what a look-up lends
-pub lent : {X : Type 0} (xs : List X) (i : ℕ) (r : Option (Bor X)) → IsItemAt xs i r → option_copied r ≡ slice_get xs i
-lent xs i None is = sym (slice_get_past xs i is.3)
-lent xs i (Some x) is = sym (slice_get_read xs (length xs) i x.now refl is.3.0 is.1)
-
--- one core more
-pub cores_longer : (rows : List UrbRow) (bindings : List Bound) (ids : List (List ℕ)) (i : ℕ) (d : Bound) (old new : List Core) (core : Core) → i < length bindings → AreNewCores rows (take i bindings) ids old
-    → IsNewCore (origin_in rows (get_or bindings i d) (slice_get ids i)) (get_or bindings i d) core → new ≡ old ++ core ∷ [] → AreNewCores rows (take (i + 1) bindings) ids new
-cores_longer rows bindings ids i d old new core near are is e =
-    let xs : List Bound = take i bindings in
-    let b : Bound = get_or bindings i d in
-    let long : length xs ≡ i = length-take-le i bindings (omega arith) in
-    let longer : AreNewCores rows (xs ++ b ∷ []) ids (old ++ core ∷ []) = record {
-      count = (let a = length-append xs (b ∷ []) in let c = length-append old (core ∷ []) in let d = are.count in omega arith);
-      each = pairs_longer (λ k (b : Bound) core. IsNewCore (origin_in rows b (slice_get ids k)) b core) xs old b core are.count are.each (subst (λ k. IsNewCore (origin_in rows b (slice_get ids k)) b core) (sym long) is);
-    } in
-    subst (AreNewCores rows (take (i + 1) bindings) ids) (sym e) (subst (λ l. AreNewCores rows l ids (old ++ core ∷ [])) (sym (take_more bindings i d near)) longer)
-
 -- one URB more
-pub urbs_longer : (s : Scene) (u : ℕ) (urbs : List SceneUrb) (homes : List (Option ℕ)) (old new : List UrbRow) (row : UrbRow) → urbs ≡ s.urbs
-    → homes ≡ homes_of s → row ≡ record { home = or_zero (get_or homes u None); owner = owner_of s u; again = again_in (slice_get urbs u); transfer = None } → old ≡ map (new_urb s) (below u) → new ≡ old ++ row ∷ []
+pub urbs_longer : (s : Scene) (u : ℕ) (urbs : List SceneUrb) (homes : List (Option ℕ)) (owners : List (Option Owner)) (old new : List UrbRow) (row : UrbRow) → u < length homes → urbs ≡ s.urbs
+    → homes ≡ homes_of s → owners ≡ owners_of s → row ≡ record { home = or_zero (get_or homes u None); owner = get_or owners u None; again = again_in (slice_get urbs u); transfer = None } → old ≡ map (new_urb s) (below u) → new ≡ old ++ row ∷ []
     → new ≡ map (new_urb s) (below (u + 1))
-urbs_longer s u urbs homes old new row same hs r o e =
-    let is : row ≡ new_urb s u = r ∙ (λ i. record { home = or_zero (get_or (hs i) u None); owner = owner_of s u; again = again_in (slice_get (same i) u); transfer = None }) in
+urbs_longer s u urbs homes owners old new row near same hs os r o e =
+    let there : u < urb_count s = subst (λ (l : List (Option ℕ)). u < length l) hs near in
+    let owner : get_or owners u None ≡ owner_of s u = ap (λ l. get_or l u None) os ∙ get-map_below (owner_of s) (urb_count s) u None there in
+    let is : row ≡ new_urb s u = r ∙ (λ i. record { home = or_zero (get_or (hs i) u None); owner = owner i; again = again_in (slice_get (same i) u); transfer = None }) in
     e ∙ ((λ i. o i ++ is i ∷ []) ∙ map_below-suc (new_urb s) u)
 
 module _ (s : Scene) (good : IsWellFormed s) (run : LineRun) (stands : Stands run.plain (machine_of s) []) (ends : AreNewEnds (shapes_of s) run.ends.items) (ready : AreReady s.devices run.devices.items)
-    (heard : HaveHeard s.devices (probes_of s).heard run.devices.items) (urbs : run.urbs.items ≡ map (new_urb s) (below (urb_count s))) (cores : AreNewCores run.urbs.items (bindings_of s) (ids_of s) run.cores.items) where
+    (heard : HaveHeard s.devices (probes_of s).heard run.devices.items) (urbs : run.urbs.items ≡ map (new_urb s) (below (urb_count s))) (cores : ShowsCores s [] run.cores.items) where
   end_shown : (e : ℕ) (end : EndRow) → slice_get run.ends.items e ≡ Some end → ShowsEnd s at_start e end
   end_shown e end at =
       let within = slice_get_within run.ends.items e end at in
@@ -160,25 +119,6 @@ module _ (s : Scene) (good : IsWellFormed s) (run : LineRun) (stands : Stands ru
       let is : row ≡ new_urb s u = is-map_below (new_urb s) (urb_count s) u row (ap (λ l. slice_get l u) (sym urbs) ∙ at) in
       subst (ShowsUrb s at_start u) (sym is) record { at = refl; owner = refl; more = omega arith; holds = refl }
 
-  -- a core begins with what its binding says
-  origin_is : (k : ℕ) (b : Bound) → slice_get (bindings_of s) k ≡ Some b → origin_in run.urbs.items b (slice_get (ids_of s) k) ≡ origin_of s k
-  unfolding origin_of
-  origin_is k b at =
-      let number = number_is s good run.urbs.items urbs k b at in
-      let id = unwrap_or-slice_get (ids_of s) k [] in
-      (λ j. record { number = number j; interface = b.interface; id = id j }) ∙ ap (origin_by s k) (sym at)
-
-  cores_shown : ShowsCores s [] run.cores.items
-  cores_shown = record {
-    all = cores.count;
-    each = λ k core b at is. subst (λ o. IsCore b.driver o [] core) (origin_is k b is) (cores.each k b core is at).is;
-    out = λ k core at.
-        let near = slice_get_within run.cores.items k core at in
-        let count = cores.count in
-        let there = some_at (bindings_of s) k (omega arith) in
-        (cores.each k there.0 core there.1 at).quiet;
-  }
-
   pub shows_start : run.given.items ≡ [] → run.down ≡ false → Shows s at_start run
   shows_start given down = record {
     stands = stands;
@@ -191,7 +131,7 @@ module _ (s : Scene) (good : IsWellFormed s) (run : LineRun) (stands : Stands ru
     all_urbs = ap (λ l. length l) urbs ∙ length-map_below (new_urb s) (urb_count s);
     each_urb = urb_shown;
     unmoved = λ e none. refl;
-    cores = cores_shown;
+    cores = cores;
     came_back = given;
     host = down;
   }

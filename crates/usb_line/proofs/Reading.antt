@@ -32,7 +32,7 @@ use Rattle.usb_line.specs.Reads.{read_below, MayRead}
 use Rattle.usb_line.specs.Sent.{MaySend, Sent}
 use Rattle.usb_trace.proofs.Entries.{AreAbout, other_state}
 use Rattle.usb_line.proofs.Submits.{submit_about}
-use Rattle.usb_line.proofs.Homes.{has_home, home_shape}
+use Rattle.usb_trace.proofs.Homes.{has_home, home_shape}
 use Rattle.usb_line.proofs.Killing.{plain_urbs}
 use Rattle.usb_trace.proofs.Owners.{owner_size}
 use Rattle.usb_line.proofs.Apt.{bare_apt}

@@ -29,7 +29,7 @@ use Rattle.usb_line.specs.Line.{at_start, begun}
 use Rattle.usb_trace.proofs.Owners.{owner_size}
 use Rattle.usb_line.proofs.Reading.{read_parts, reading_window}
 use Rattle.usb_trace.proofs.Entries.{AreOf, AreOf-append, AreAbout, other_state, AllFollow, AllFollow-append}
-use Rattle.usb_line.proofs.Homes.{has_home, home_shape}
+use Rattle.usb_trace.proofs.Homes.{has_home, home_shape}
 use Rattle.usb_line.proofs.Submits.{submit_about, submit_pass, submit_follow}
 use Rattle.usb_line.proofs.Calm.{calm_empty}
 use Rattle.usb_trace.proofs.Dues.{due-none}

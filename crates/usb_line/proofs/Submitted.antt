@@ -1,5 +1,5 @@
 -- A call that submits an URB.
-use Rattle.std.proofs.Common.{ℕ, ◌≡◌, ◌<◌, ◌^◌, Option, Some, None, List, [], ◌++◌, length, refl, sym, ap, ◌∙◌, subst, append-nil, arith}
+use Rattle.std.proofs.Common.{ℕ, ◌≡◌, ◌<◌, Option, Some, None, List, [], ◌++◌, length, refl, sym, ap, ◌∙◌, subst, append-nil}
 use Rattle.std.specs.Prelude.{slice_get}
 use Rattle.usb_types.specs.declared.errno.Errno.{Errno}
 use Rattle.usb_types.specs.declared.errno.Code.{Code}
@@ -21,16 +21,15 @@ use Rattle.usb_trace.specs.declared.rows.HostCall.TheVariants as host_call
 use Rattle.usb_trace.specs.declared.rows.CallAnswer.TheVariants as told
 use Rattle.usb_prepare.specs.Ends.{shape_at, shapes_of}
 use Rattle.usb_prepare.specs.Layout.{urb_count, home}
-use Rattle.usb_trace.specs.Plan.{machine_of, buffer_of, payload_by, fresh, submit_fault, pass_of, host_call_of}
+use Rattle.usb_trace.specs.Plan.{machine_of, fresh, submit_fault, pass_of, host_call_of}
 use Rattle.usb_trace.specs.Run.{submit_of, host_call_entries, down_after}
 use Rattle.usb_line.specs.Line.{Progress, adds, call_record, answer_now, submit_answer, at_once}
 use Rattle.usb_line.specs.Shows.{Shows}
 use Rattle.usb_line.specs.Calls.{MayMake, Made}
-use Rattle.usb_line.specs.Sent.{said_of, sent_by, MaySend, Sent}
+use Rattle.usb_line.specs.Sent.{MaySend, Sent}
 use Rattle.usb_trace.proofs.Stills.{AreStill}
 use Rattle.usb_line.specs.Shows.{IsApt}
-use Rattle.usb_line.specs.declared.submit.Said.{Said}
-use Rattle.usb_line.proofs.Homes.{has_home, home_takes, fresh_long, fresh_window}
+use Rattle.usb_trace.proofs.Homes.{has_home, home_takes, fresh_window}
 use Rattle.usb_line.proofs.OnInterface.{fresh_apt}
 use Rattle.usb_prepare.proofs.Facts.{home_near}
 use Rattle.usb_line.proofs.Showing.{shows_called}
@@ -52,17 +51,9 @@ module _ (s : Scene) (f : Progress) (i : ℕ) (c : Call) (run : LineRun) (p u : 
   pub known : u < length run.plain.states.items
   known = near_plain s f i c run p (host_call.Submit u) may u near
 
-  module _ (said : Said) (is : said_of (slice_get s.urbs u) ≡ said) where
-    -- its buffer is short
-    pub sent_few : length (buffer_of said.len (payload_by c.target c)) < 2 ^ 32
-    sent_few = let few = fresh_long s may.good u c few_bytes in let same = ap (λ (x : Said). length (buffer_of x.len (payload_by c.target c))) is in omega arith
-
-    pub fresh_is : fresh s u c ≡ sent_by said c
-    fresh_is = ap (λ said. sent_by said c) is
-
-    -- its shape has a fault
-    pub fault_is : (o : Option Errno) → o ≡ shape_fault (shape_at s (home s u)) (sent_by said c) → submit_fault s u c ≡ o
-    fault_is o e = ap (shape_fault (shape_at s (home s u))) fresh_is ∙ sym e
+  -- its shape has a fault
+  pub fault_is : (t : Transfer) (o : Option Errno) → t ≡ fresh s u c → o ≡ shape_fault (shape_at s (home s u)) t → submit_fault s u c ≡ o
+  fault_is t o is e = ap (shape_fault (shape_at s (home s u))) (sym is) ∙ sym e
 
   pub made_fault : (x : Errno) → submit_fault s u c ≡ Some x → Made s f i c (told.Code (Fault x)) run
   made_fault x fault =

@@ -28,7 +28,7 @@ use Rattle.usb_trace.specs.Handlers.{ShowsCores}
 use Rattle.usb_trace.specs.Rows.{end_of}
 use Rattle.usb_line.specs.Outcome.{received_at}
 use Rattle.usb_trace.proofs.CoresSeen.{some_at}
-use Rattle.usb_line.proofs.Opening.{pairs_longer}
+use Rattle.usb_trace.proofs.NewCoresShown.{pairs_longer}
 
 -- a list of which each element is known by its place
 by_place : (g : ℕ → EndReceived) (xs : List EndRow) → ((e : ℕ) (x : EndRow) → slice_get xs e ≡ Some x → received_at x ≡ g e)

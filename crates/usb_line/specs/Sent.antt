@@ -1,5 +1,5 @@
 -- What a submit finds, and what it leaves.
-use Rattle.std.specs.Prelude.{ℕ, ◌≡◌, ◌<◌, List, length, slice_get, slice_set, Option, Some}
+use Rattle.std.specs.Prelude.{ℕ, ◌≡◌, ◌<◌, List, slice_get, slice_set, Some}
 use Rattle.usb_types.specs.declared.errno.Code.{Code}
 use Rattle.usb_machine.specs.declared.transfer.Transfer.{Transfer}
 use Rattle.usb_machine.specs.declared.entry.Entry.{Entry}
@@ -8,28 +8,17 @@ use Rattle.usb_machine.specs.State.{refusal}
 use Rattle.usb_machine.specs.History.{HasHome, state_of}
 use Rattle.usb_machine.specs.Calls.{submit_entries}
 use Rattle.usb_scene.specs.declared.scene.Scene.{Scene}
-use Rattle.usb_scene.specs.declared.scene.SceneUrb.{SceneUrb}
 use Rattle.usb_scene.specs.declared.scene.Call.{Call}
 use Rattle.usb_trace.specs.declared.rows.HostCall.TheVariants as host_call
 use Rattle.usb_line.specs.declared.run.UrbRow.{UrbRow}
 use Rattle.usb_line.specs.declared.run.LineRun.{LineRun}
 use Rattle.usb_prepare.specs.Layout.{home}
-use Rattle.usb_line.specs.declared.submit.Said.{Said}
-use Rattle.usb_trace.specs.Plan.{machine_of, buffer_of, len_in, short_in, setup_by, payload_by, window_by}
+use Rattle.usb_trace.specs.Plan.{machine_of, fresh}
 use Rattle.usb_line.specs.Line.{Progress, adds}
 use Rattle.usb_line.specs.Shows.{IsApt, Shows}
 use Rattle.usb_line.specs.Steps.{passes_of}
 use Rattle.usb_line.specs.Calls.{MayMake}
 use Rattle.usb_line.specs.Turned.{SameElse}
-
--- what the scene says of an URB: of a driver's nothing
-abbrev pub said_of : Option SceneUrb → Said
-said_of urb = record { len = len_in urb; short = short_in urb }
-
--- the transfer that a submit sends of an URB of which this is said
-abbrev pub sent_by : Said → Call → Transfer
-sent_by said c = let buf = buffer_of said.len (payload_by c.target c) in
-    record { setup = setup_by c.target c; buf = buf; from = 0; len = window_by c.target c (length buf); short_not_ok = said.short; actual = 0; number = c.line }
 
 -- the machine may be asked to send this transfer, which the URB's home takes
 pub record MayAsk (s : Scene) (h : List Entry) (p u : ℕ) (t : Transfer) : Type 0 where
@@ -50,13 +39,14 @@ pub record Sent (s : Scene) (f : Progress) (p u : ℕ) (t : Transfer) (code : Co
   pub gate : code ≡ refusal (state_of f.history u)
   pub shows : Shows s (adds f (submit_entries p u t code)) run
 
--- the object shows the run before this call, which submits this URB
-pub record CanSubmit (run : LineRun) (p u : ℕ) (said : Said) (c : Call) : Type 0 where
+-- the object shows the run before a call that submits this URB with this transfer
+pub record CanSubmit (run : LineRun) (p u : ℕ) (t : Transfer) : Type 0 where
   pub scene : Scene
   pub far : Progress
   pub thread : ℕ
-  pub may : MayMake scene far thread c run p (host_call.Submit u)
-  pub is : said_of (slice_get scene.urbs u) ≡ said
+  pub call : Call
+  pub may : MayMake scene far thread call run p (host_call.Submit u)
+  pub is : t ≡ fresh scene u call
 
 -- the transfer is in the row of URB u, and nothing else changed
 pub record Keeps (old new : LineRun) (u : ℕ) (t : Transfer) : Type 0 where

@@ -7,11 +7,10 @@ ghost use Rattle.usb_trace.specs.Plan.{calls_from};
 ghost use Rattle.usb_line.specs.Calls.{MayBeMade, CanBeMade, Made, IsUnderway};
 
 use crate::run::LineRun;
-use crate::submit::said_of;
 use std::alloc::Global;
 use usb_bind::Bound;
 use usb_scene::{Call, Scene};
-use usb_trace::{CallAnswer, CallMade, HostCall, host_call_in, pass_of_thread};
+use usb_trace::{CallAnswer, CallMade, HostCall, host_call_in, pass_of_thread, sent_by_call};
 use usb_types::{List, Memory, UrbId};
 
 impl LineRun<'_> {
@@ -31,8 +30,8 @@ impl LineRun<'_> {
         let pass = pass_of_thread(scene, thread);
         match host_call_in(bindings, call) {
             HostCall::Submit(urb) => {
-                let said = said_of(scene.urbs.items(), urb);
-                self.submit(alloc, pass, UrbId(urb), said, call)
+                let t = sent_by_call(alloc, scene, urb, call)?;
+                Ok(self.submit(pass, UrbId(urb), t))
             }
             HostCall::Unlink(urb) => Ok(self.unlink(pass, UrbId(urb))),
             HostCall::Kill(urb) => self.kill(alloc, pass, UrbId(urb)),

@@ -1,25 +1,24 @@
 //! The run as it begins.
-ghost use Rattle.std.specs.Prelude.{◌≡◌, ◌<◌, ◌^◌, [], map, length, slice_get, option_copied, None, IfOk};
+ghost use Rattle.std.specs.Prelude.{◌≡◌, [], map, None, IfOk};
 ghost use Rattle.usb_scene.specs.WellFormed.{IsWellFormed};
 ghost use Rattle.usb_prepare.specs.Below.{below};
-ghost use Rattle.usb_prepare.specs.Prepared.{probes_of};
 ghost use Rattle.usb_prepare.specs.Ready.{IsPrepared};
 ghost use Rattle.usb_prepare.specs.Layout.{homes_of, urb_count};
-ghost use Rattle.usb_trace.specs.Plan.{machine_of, again_in};
-ghost use Rattle.usb_line.specs.Opened.{IsNewEnd, AreNewEnds, number_in_rows, origin_in, IsNewCore, AreNewCores, IsOpenedRun, new_urb};
+ghost use Rattle.usb_trace.specs.Plan.{machine_of};
+ghost use Rattle.usb_trace.specs.NewCores.{owners_of};
+ghost use Rattle.usb_line.specs.Opened.{IsNewEnd, AreNewEnds, IsOpenedRun, new_urb};
 ghost use Rattle.usb_machine.specs.History.{or_zero};
 ghost use Rattle.usb_machine.specs.Plain.{Stands};
 
-use crate::reads::{FIRST, numbers};
 use crate::run::{EndRow, LineRun, UrbRow};
 use std::alloc::{AllocError, Global};
-use usb_bind::{Board, Bound};
-use usb_class::{Core, Owner};
+use usb_bind::Board;
+use usb_class::Owner;
 use usb_machine::{Plain, Shape};
 use usb_prepare::{Found, Prepared};
-use usb_scene::{Scene, SceneUrb};
-use usb_trace::{Received, owner_in};
-use usb_types::{Buf, List, Memory, Role, UrbId};
+use usb_scene::Scene;
+use usb_trace::{Received, again_said, new_cores, owners_in};
+use usb_types::{Buf, List, Memory};
 
 // An endpoint where nothing waits.
 fn end_row(alloc: Global, shape: &Shape) -> EndRow
@@ -57,84 +56,22 @@ fn urb_row(home: Option<u32>, owner: Option<Owner>, again: u32) -> UrbRow
     }
 }
 
-// How often the handler of one of the scene's own URBs submits again.
-fn again(urbs: &[SceneUrb], urb: usize) -> u32
-    ensures { result ≡ again_in (slice_get urbs.now urb) }
-{
-    match urbs.get(urb) {
-        Some(urb) => urb.again,
-        None => 0,
-    }
-}
-
+// The URBs before their first submits.
 fn urb_rows(
     alloc: Global,
     scene: &Scene,
-    board: &Board,
+    owners: &[Option<Owner>],
     homes: &[Option<u32>],
 ) -> Result<Vec<UrbRow>, AllocError>
-    requires good { IsWellFormed scene.now }
-    requires bound { board.now ≡ (probes_of scene.now).board }
+    requires owned { owners.now ≡ owners_of scene.now }
     requires homes { homes.now ≡ homes_of scene.now }
     ensures { IfOk result (λ urbs. urbs.items ≡ map (new_urb scene.now) (below (urb_count scene.now))) }
 {
     let mut urbs = Vec::new(alloc);
     for (u, home) in homes.iter().enumerate() {
-        let owner = owner_in(board, u as u32);
-        urbs.push(urb_row(*home, owner, again(scene.urbs.items(), u)))?;
+        urbs.push(urb_row(*home, owners[u], again_said(scene.urbs.items(), u)))?;
     }
     Ok(urbs)
-}
-
-// The number of the transfer that is a driver's own with this URB, of those rows.
-fn number_of(urbs: &[UrbRow], urb: Option<UrbId>) -> u64
-    requires { length urbs.now < 2 ^ 32 }
-    ensures { result ≡ number_in_rows urbs.now urb }
-{
-    let Some(UrbId(urb)) = urb else {
-        return 0;
-    };
-    let mut number = FIRST;
-    for (u, row) in urbs.iter().enumerate() {
-        if u as u32 == urb {
-            break;
-        }
-        number += numbers(row.owner);
-    }
-    number
-}
-
-// The core of a driver that has seen nothing.
-fn new_core(alloc: Global, urbs: &[UrbRow], bound: &Bound, id: Option<&Buf>) -> Result<Core, Memory>
-    requires { length urbs.now < 2 ^ 32 }
-    ensures { IfOk result (λ core. IsNewCore (origin_in urbs.now bound.now (option_copied id.entry)) bound.now core) }
-{
-    let number = number_of(urbs, bound.urb(Role::Ctl));
-    let id = match id {
-        Some(id) => id.bytes(),
-        None => &[],
-    };
-    Core::new(alloc, bound.driver, number, bound.interface, id)
-}
-
-// The cores of drivers that have seen nothing.
-fn new_cores(
-    alloc: Global,
-    urbs: &[UrbRow],
-    bindings: &[Bound],
-    ids: &[Buf],
-) -> Result<Vec<Core>, Memory>
-    requires { length urbs.now < 2 ^ 32 }
-    ensures { IfOk result (λ cores. AreNewCores urbs.now bindings.now ids.now cores.items) }
-{
-    let mut cores = Vec::new(alloc);
-    for (place, bound) in bindings.iter().enumerate() {
-        let core = new_core(alloc, urbs, bound, ids.get(place))?;
-        let Ok(()) = cores.push(core) else {
-            return Err(Memory);
-        };
-    }
-    Ok(cores)
 }
 
 /// The run before its first entry, and what its report says of the prepared scene.
@@ -167,10 +104,12 @@ fn started<'a>(
     let Ok(ends) = end_rows(alloc, layout.shapes.items()) else {
         return Err(Memory);
     };
-    let Ok(urbs) = urb_rows(alloc, scene, &board, layout.homes.items()) else {
+    let homes = layout.homes.items();
+    let owners = owners_in(alloc, scene, &board, homes.len() as u32)?;
+    let Ok(urbs) = urb_rows(alloc, scene, &owners, homes) else {
         return Err(Memory);
     };
-    let cores = new_cores(alloc, &urbs, board.bindings(), ids.items())?;
+    let cores = new_cores(alloc, &owners, board.bindings(), ids.items())?;
     let run = LineRun {
         plain,
         devices,

@@ -1,51 +1,15 @@
 //! Main submits the reads that drivers keep.
-ghost use Rattle.std.specs.Prelude.{◌≡◌, ◌+◌, if◌then◌else◌, IfOk};
+ghost use Rattle.std.specs.Prelude.{◌+◌, IfOk};
 ghost use Rattle.usb_scene.specs.declared.scene.Scene.{Scene};
-ghost use Rattle.usb_trace.specs.Plan.{is_numbered_by, read_by};
 ghost use Rattle.usb_line.specs.Line.{begun};
 ghost use Rattle.usb_line.specs.Shows.{Shows};
 ghost use Rattle.usb_line.specs.Reads.{MayRead, CanRead, MayBegin, CanBegin, read_below};
 
 use crate::run::LineRun;
-use crate::submit::zeros;
 use std::alloc::Global;
-use usb_class::{Owner, has_number};
-use usb_machine::Transfer;
+use usb_class::Owner;
+use usb_trace::{FIRST, kept_read, numbers};
 use usb_types::{Memory, UrbId};
-
-/// The number of the first transfer that is a driver's own.
-pub const FIRST: u64 = 2_000_000;
-
-// The read that a driver keeps with its URB, if it does.
-fn read(alloc: Global, owner: Option<Owner>, number: u64) -> Result<Option<Transfer>, Memory>
-    ensures { IfOk result (λ t. t ≡ read_by owner number) }
-{
-    let Some(owner) = owner else {
-        return Ok(None);
-    };
-    let Some(len) = owner.size else {
-        return Ok(None);
-    };
-    Ok(Some(Transfer {
-        setup: None,
-        buf: zeros(alloc, len)?,
-        from: 0,
-        len,
-        short_not_ok: false,
-        actual: 0,
-        number,
-    }))
-}
-
-/// How many numbers an URB's own transfers take.
-pub fn numbers(owner: Option<Owner>) -> u64
-    ensures { result ≡ (if is_numbered_by owner then 1 else 0) }
-{
-    match owner {
-        Some(owner) if has_number(owner.driver, owner.role) => 1,
-        _ => 0,
-    }
-}
 
 impl LineRun<'_> {
     // Submits the read of an URB, where its endpoint takes it.
@@ -60,7 +24,7 @@ impl LineRun<'_> {
         requires { CanRead self.old pass urb owner number }
         ensures { IfOk result (λ _. (s : Scene) → MayRead s self.old pass urb owner number → Shows s (read_below s (urb + 1)) self.new) }
     {
-        let Some(t) = read(alloc, owner, number)? else {
+        let Some(t) = kept_read(alloc, owner, number)? else {
             return Ok(());
         };
         if let Some(_) = self.fault(UrbId(urb), &t) {

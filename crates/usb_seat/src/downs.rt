@@ -1,16 +1,16 @@
 //! Calls from the hub's seat: the host is taken down, and brought up again.
-ghost use Rattle.std.specs.Prelude.{◌≡◌, ◌<◌, ℕ, List, Option, IfOk, IfErr, length, true, false};
+ghost use Rattle.std.specs.Prelude.{◌≡◌, ◌<◌, ℕ, IfOk, IfErr, length, true, false};
 ghost use Rattle.std.specs.List.{range_with_len};
-ghost use Rattle.usb_types.specs.declared.errno.Code.{Code};
 ghost use Rattle.usb_types.specs.declared.urb.Flag.TheVariants as flag;
 ghost use Rattle.usb_machine.specs.declared.entry.TheConstants.{HUB};
 ghost use Rattle.usb_machine.specs.Parts.{held_of};
-ghost use Rattle.usb_machine.specs.Calls.{flush_entries, unflag_entries};
+ghost use Rattle.usb_machine.specs.Calls.{unflag_entries};
 ghost use Rattle.usb_machine.specs.Fresh.{Grown, Sound};
 ghost use Rattle.usb_machine.specs.HostCalls.{IsUrb};
 ghost use Rattle.usb_machine.specs.Tokens.{IsWholeHub};
 ghost use Rattle.usb_cancel.specs.Flushing.{ids};
 ghost use Rattle.usb_seat.specs.Sitting.{known_in, IsSeat};
+ghost use Rattle.usb_seat.specs.TakenDown.{TookDown};
 
 use crate::seats::Seat;
 use std::alloc::Global;
@@ -54,7 +54,7 @@ fn take_down_hub<H: Host, R: Wait>(
     requires up { (u : ℕ) → u < urbs → (held_of (H.known (H.Hub.own hub.old)).mine u).flags.down ≡ false }
     ensures here { H.is_of host.now (H.Hub.own hub.new) }
     ensures whole { IsWholeHub (H.machine host.now) (H.known (H.Hub.own hub.new)) (H.Hub.flags hub.new) (H.Hub.has_room hub.new) }
-    ensures down { IfOk result (λ _. (marks : List Code) × (rests : List (Option ℕ)) × (length marks ≡ urbs) × (length rests ≡ urbs) × Grown (H.known (H.Hub.own hub.old)) (H.known (H.Hub.own hub.new)) (flush_entries (H.known (H.Hub.own hub.old)).number flag.Down (range_with_len 0 urbs) marks rests)) }
+    ensures down { IfOk result (λ _. TookDown (H.known (H.Hub.own hub.old)) (H.known (H.Hub.own hub.new)) urbs) }
     ensures none { IfErr result (λ _. hub.new ≡ hub.old) }
 {
     let below = urbs_below(alloc, urbs)?;
@@ -78,7 +78,7 @@ pub fn take_down<H: Host, R: Wait>(
     requires up { (u : ℕ) → u < urbs → (held_of (known_in H.known H.Hub.own seat.old).mine u).flags.down ≡ false }
     ensures here { IsSeat (H.machine host.now) (H.is_of host.now) H.known H.Hub.own H.Hub.flags H.Hub.has_room seat.new }
     ensures sound { Sound (H.machine host.now) (known_in H.known H.Hub.own seat.new) }
-    ensures down { IfOk result (λ _. (marks : List Code) × (rests : List (Option ℕ)) × (length marks ≡ urbs) × (length rests ≡ urbs) × Grown (known_in H.known H.Hub.own seat.old) (known_in H.known H.Hub.own seat.new) (flush_entries (known_in H.known H.Hub.own seat.old).number flag.Down (range_with_len 0 urbs) marks rests)) }
+    ensures down { IfOk result (λ _. TookDown (known_in H.known H.Hub.own seat.old) (known_in H.known H.Hub.own seat.new) urbs) }
     ensures none { IfErr result (λ _. known_in H.known H.Hub.own seat.new ≡ known_in H.known H.Hub.own seat.old) }
 {
     match seat {

@@ -11,6 +11,6 @@ mod stops;
 pub use closing::{Opened, close, open};
 pub use dealing::{Gathered, Seats, deal, gather};
 pub use downs::{bring_up, take_down};
-pub use meeting::meet;
+pub use meeting::{meet, meet_seat};
 pub use seats::{Seat, reject, submit, unlink, withdraw};
 pub use stops::{kill, poison, see_quiet};

@@ -45,6 +45,27 @@ fn hub_meets_hub<H: Meets, R: Wait>(rt: &R, host: &H, hub: &mut H::Hub, other: &
     hub_meets(rt, host, hub, other.pass())
 }
 
+/// Afterwards a pass that is in no seat has seen all that it and the seat had seen.
+pub fn meet_seat<H: Meets, R: Wait>(
+    rt: &R,
+    host: &H,
+    pass: &mut H::Pass,
+    other: &mut Seat<H::Pass, H::Hub>,
+)
+    requires here { H.is_of host.now pass.old }
+    requires there { IsSeat (H.machine host.now) (H.is_of host.now) H.known H.Hub.own H.Hub.flags H.Hub.has_room other.old }
+    ensures here { H.is_of host.now pass.new }
+    ensures there { IsSeat (H.machine host.now) (H.is_of host.now) H.known H.Hub.own H.Hub.flags H.Hub.has_room other.new }
+    ensures pass { Looked (H.machine host.now) (H.known pass.old) (H.known pass.new) }
+    ensures other { Looked (H.machine host.now) (known_in H.known H.Hub.own other.old) (known_in H.known H.Hub.own other.new) }
+    ensures met { Begins (H.known pass.new).seen (known_in H.known H.Hub.own other.old).seen }
+{
+    match other {
+        Seat::Own(other) => host.meet(rt, pass, other),
+        Seat::Hub(other) => meets_hub(rt, host, pass, other),
+    }
+}
+
 /// Afterwards a seat has seen all that both had seen.
 pub fn meet<H: Meets, R: Wait>(
     rt: &R,

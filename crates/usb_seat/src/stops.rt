@@ -7,6 +7,7 @@ ghost use Rattle.usb_machine.specs.Calls.{plain_entry, block_entries, kill_entri
 ghost use Rattle.usb_machine.specs.Fresh.{Fresh};
 ghost use Rattle.usb_machine.specs.HostCalls.{IsUrb, HasClaimed, number_of};
 ghost use Rattle.usb_machine.specs.Tokens.{IsWholeHub};
+ghost use Rattle.usb_cancel.specs.Stops.{ClaimedSince};
 ghost use Rattle.usb_seat.specs.Sitting.{known_in, IsSeat};
 
 use crate::seats::{Seat, reject};
@@ -24,6 +25,7 @@ fn kill_hub<H: Host, R: Wait>(rt: &R, host: &H, hub: &mut H::Hub, urb: UrbId) ->
     ensures whole { IsWholeHub (H.machine host.now) (H.known (H.Hub.own hub.new)) (H.Hub.flags hub.new) (H.Hub.has_room hub.new) }
     ensures fresh { (a : Code) × Fresh (H.machine host.now) (H.known (H.Hub.own hub.old)) (H.known (H.Hub.own hub.new)) (kill_entries (H.known (H.Hub.own hub.old)).number urb.0 a (number_of result)) }
     ensures claimed { HasClaimed (H.known (H.Hub.own hub.new)).seen (H.known (H.Hub.own hub.new)).number urb.0 result }
+    ensures since { ClaimedSince (H.known (H.Hub.own hub.old)).seen (H.known (H.Hub.own hub.new)).seen (H.known (H.Hub.own hub.new)).number urb.0 result }
 {
     usb_cancel::kill(rt, host, hub.pass(), urb)
 }
@@ -41,6 +43,7 @@ pub fn kill<H: Host, R: Wait>(
     ensures here { IsSeat (H.machine host.now) (H.is_of host.now) H.known H.Hub.own H.Hub.flags H.Hub.has_room seat.new }
     ensures fresh { (a : Code) × Fresh (H.machine host.now) (known_in H.known H.Hub.own seat.old) (known_in H.known H.Hub.own seat.new) (kill_entries (known_in H.known H.Hub.own seat.old).number urb.0 a (number_of result)) }
     ensures claimed { HasClaimed (known_in H.known H.Hub.own seat.new).seen (known_in H.known H.Hub.own seat.new).number urb.0 result }
+    ensures since { ClaimedSince (known_in H.known H.Hub.own seat.old).seen (known_in H.known H.Hub.own seat.new).seen (known_in H.known H.Hub.own seat.new).number urb.0 result }
 {
     match seat {
         Seat::Own(pass) => usb_cancel::kill(rt, host, pass, urb),
@@ -57,6 +60,7 @@ fn poison_hub<H: Host, R: Wait>(rt: &R, host: &H, hub: &mut H::Hub, urb: UrbId) 
     ensures whole { IsWholeHub (H.machine host.now) (H.known (H.Hub.own hub.new)) (H.Hub.flags hub.new) (H.Hub.has_room hub.new) }
     ensures fresh { (a : Code) × Fresh (H.machine host.now) (H.known (H.Hub.own hub.old)) (H.known (H.Hub.own hub.new)) (poison_entries (H.known (H.Hub.own hub.old)).number urb.0 a (number_of result)) }
     ensures claimed { HasClaimed (H.known (H.Hub.own hub.new)).seen (H.known (H.Hub.own hub.new)).number urb.0 result }
+    ensures since { ClaimedSince (H.known (H.Hub.own hub.old)).seen (H.known (H.Hub.own hub.new)).seen (H.known (H.Hub.own hub.new)).number urb.0 result }
     ensures kept { keeps (H.known (H.Hub.own hub.new)).mine urb.0 ≡ true }
 {
     usb_cancel::poison(rt, host, hub.pass(), urb)
@@ -75,6 +79,7 @@ pub fn poison<H: Host, R: Wait>(
     ensures here { IsSeat (H.machine host.now) (H.is_of host.now) H.known H.Hub.own H.Hub.flags H.Hub.has_room seat.new }
     ensures fresh { (a : Code) × Fresh (H.machine host.now) (known_in H.known H.Hub.own seat.old) (known_in H.known H.Hub.own seat.new) (poison_entries (known_in H.known H.Hub.own seat.old).number urb.0 a (number_of result)) }
     ensures claimed { HasClaimed (known_in H.known H.Hub.own seat.new).seen (known_in H.known H.Hub.own seat.new).number urb.0 result }
+    ensures since { ClaimedSince (known_in H.known H.Hub.own seat.old).seen (known_in H.known H.Hub.own seat.new).seen (known_in H.known H.Hub.own seat.new).number urb.0 result }
     ensures kept { keeps (known_in H.known H.Hub.own seat.new).mine urb.0 ≡ true }
 {
     match seat {

@@ -6,3 +6,4 @@ pub mod Serving
 pub mod Promises
 pub mod NextCall
 pub mod Words
+pub mod Turning

@@ -27,3 +27,6 @@ pub mod Resent
 pub mod CoresSeen
 pub mod Handling
 pub mod Claimed
+pub mod Homes
+pub mod Numbered
+pub mod NewCoresShown

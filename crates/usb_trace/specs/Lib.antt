@@ -8,3 +8,4 @@ pub mod Rows
 pub mod RunLaws
 pub mod ByNumber
 pub mod Handlers
+pub mod NewCores

@@ -5,6 +5,8 @@ use Rattle.usb_types.specs.declared.urb.Why.TheVariants.{Shutdown}
 use Rattle.usb_machine.specs.Calls.{marks_of, claims_of}
 use Rattle.usb_machine.specs.Fresh.{Grown}
 use Rattle.usb_cancel.specs.Flushing.{ids, flags_of, numbers_of}
+use Rattle.usb_machine.proofs.Growing.{grown_more}
+use Rattle.usb_cancel.proofs.Stopping.{since_longer}
 use Rattle.usb_cancel.proofs.Flushes.{flushed}
 use Rattle.usb_cancel.proofs.hub.flush.Goals as goal
 
@@ -28,3 +30,11 @@ returns-clause-fresh g c =
           c.flag_all.ensures.grown marks c.settle_all.ensures.grown last.0 last.1,
     ))
     c.settle_all.ensures.last
+
+pub returns-clause-claimed : goal.returns-clause-claimed
+returns-clause-claimed g c i lt = (c.settle_all.ensures.since i lt).claimed
+
+pub returns-clause-since : goal.returns-clause-since
+returns-clause-since g c i lt =
+    let begins = (grown_more _ _ _ _ _ c.flag_all.ensures.grown c.mark_all.ensures.marked.grown).begins in
+    since_longer _ _ _ _ _ _ begins (c.settle_all.ensures.since i lt)

@@ -69,4 +69,4 @@ pub returns-clause-claimed : goal.returns-clause-claimed
 returns-clause-claimed g c i lt =
     let known = g.H.Host.known in
     let own = g.H.Hub.Token.own in
-    claimed_later (known (own c.settle_all.new.hub)) (known (own c.withdraw_all.new.hub)) _ _ _ c.withdraw_all.ensures.grown (c.settle_all.ensures.claimed i lt)
+    claimed_later (known (own c.settle_all.new.hub)) (known (own c.withdraw_all.new.hub)) _ _ _ c.withdraw_all.ensures.grown (c.settle_all.ensures.since i lt).claimed

@@ -3,7 +3,7 @@ use Rattle.usb_machine.specs.declared.event.Event.TheVariants.{Withdraw}
 use Rattle.usb_machine.specs.Calls.{plain_entry, poison_entries}
 use Rattle.usb_machine.specs.HostCalls.{number_of}
 use Rattle.usb_machine.proofs.Growing.{fresh_then}
-use Rattle.usb_cancel.proofs.Stopping.{claimed_later}
+use Rattle.usb_cancel.proofs.Stopping.{claimed_later, since_later}
 use Rattle.usb_cancel.proofs.stops.kill.Goals as goal
 
 pub returns-clause-fresh : goal.returns-clause-fresh
@@ -18,3 +18,8 @@ pub returns-clause-claimed : goal.returns-clause-claimed
 returns-clause-claimed g c =
     let known = g.H.Host.known in
     claimed_later (known c.poison-rest.new.pass) (known c.withdraw.new.pass) _ c.args.urb.0 c.poison-rest.result c.withdraw.ensures.fresh.grown c.poison-rest.ensures.claimed
+
+pub returns-clause-since : goal.returns-clause-since
+returns-clause-since g c =
+    let known = g.H.Host.known in
+    since_later _ (known c.poison-rest.new.pass) (known c.withdraw.new.pass) _ c.args.urb.0 c.poison-rest.result c.withdraw.ensures.fresh.grown c.poison-rest.ensures.since

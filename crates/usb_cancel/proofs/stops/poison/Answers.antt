@@ -5,8 +5,8 @@ use Rattle.usb_machine.specs.declared.event.Event.TheVariants.{Reject, Quiet, Cl
 use Rattle.usb_machine.specs.declared.event.Answer.TheVariants.{Number}
 use Rattle.usb_machine.specs.Calls.{entry, plain_entry, mark_entry}
 use Rattle.usb_machine.specs.HostCalls.{number_of}
-use Rattle.usb_machine.proofs.Growing.{fresh_then}
-use Rattle.usb_cancel.proofs.Stopping.{has_claimed}
+use Rattle.usb_machine.proofs.Growing.{grown_more, fresh_then}
+use Rattle.usb_cancel.proofs.Stopping.{has_claimed, since_longer}
 use Rattle.usb_cancel.proofs.stops.poison.Goals as goal
 
 pub returns-clause-fresh : goal.returns-clause-fresh
@@ -25,4 +25,14 @@ returns-clause-fresh g c =
 
 pub returns-clause-claimed : goal.returns-clause-claimed
 returns-clause-claimed g c =
-    has_claimed (g.H.Host.machine c.args.host.now) (g.H.Host.known c.wait_quiet.new.pass) (g.H.Host.known c.claim.new.pass) c.args.urb.0 c.claim.result c.claim.ensures.fresh c.claim.ensures.rested
+    let known = g.H.Host.known in
+    let host = c.args.host.now in
+    (has_claimed (g.H.Host.machine host) (known c.wait_quiet.new.pass) (known c.claim.new.pass) c.args.urb.0 c.claim.result (g.met.H.Host.sound host c.wait_quiet.new.pass c.wait_quiet.ensures.here) c.claim.ensures.fresh c.claim.ensures.rested).claimed
+
+pub returns-clause-since : goal.returns-clause-since
+returns-clause-since g c =
+    let known = g.H.Host.known in
+    let host = c.args.host.now in
+    let old = grown_more _ _ _ _ _ (grown_more _ _ _ _ _ c.reject.ensures.fresh.grown c.unlink.ensures.fresh.grown) c.wait_quiet.ensures.fresh.grown in
+    since_longer _ _ _ _ c.args.urb.0 c.claim.result old.begins
+    (has_claimed (g.H.Host.machine host) (known c.wait_quiet.new.pass) (known c.claim.new.pass) c.args.urb.0 c.claim.result (g.met.H.Host.sound host c.wait_quiet.new.pass c.wait_quiet.ensures.here) c.claim.ensures.fresh c.claim.ensures.rested)

@@ -1,10 +1,18 @@
-use Rattle.std.proofs.Common.{◌≡◌, refl, sym, ap, ◌∙◌}
-use Rattle.std.specs.Prelude.{slice_get}
+use Rattle.std.proofs.Common.{refl}
 use Rattle.std.proofs.lemmas.Result.{IfOk-weaker}
 use Rattle.usb_trace.specs.declared.rows.HostCall.TheVariants as host_call
-use Rattle.usb_line.specs.Sent.{said_of}
 use Rattle.usb_line.proofs.Calling.{is_there, may_make, may_hub}
+use Rattle.usb_line.proofs.Submitted.{few_bytes}
 use Rattle.usb_line.proofs.run.LineRun.make.Goals as goal
+
+pub sent_by_call-t-requires-clause-good : goal.sent_by_call-t-requires-clause-good
+sent_by_call-t-requires-clause-good c = c.requires.can.may.good
+
+pub sent_by_call-t-requires-clause-bytes : goal.sent_by_call-t-requires-clause-bytes
+sent_by_call-t-requires-clause-bytes c =
+    let s = c.args.scene.now in let u = c.in-Submit.urb in
+    few_bytes s c.requires.can.far c.args.thread c.args.call.now c.args.self.now c.pass_of_thread-pass.result u
+    (may_make s c.requires.can.far c.args.thread c.args.call.now c.args.self.now c.pass_of_thread-pass.result (host_call.Submit u) c.requires.can.may (c.in-Submit.ensures c.args.scene.now c.requires.bound) c.pass_of_thread-pass.ensures)
 
 pub submit-requires : goal.submit-requires
 submit-requires c =
@@ -14,8 +22,9 @@ submit-requires c =
       scene = s;
       far = c.requires.can.far;
       thread = c.args.thread;
+      call = c.args.call.now;
       may = may;
-      is = sym (c.said_of-said.ensures ∙ ap (λ l. said_of (slice_get l u)) c.items.ensures);
+      is = c.in_ok-t.ensures;
     }
 
 pub take_down-requires : goal.take_down-requires
@@ -37,12 +46,10 @@ bring_up-requires c = record {
 }
 
 pub returns-in-Submit : goal.returns-in-Submit
-returns-in-Submit c =
+returns-in-Submit c f may =
     let s = c.args.scene.now in let u = c.in-Submit.urb in
-    let may = may_make s c.requires.can.far c.args.thread c.args.call.now c.args.self.now c.pass_of_thread-pass.result (host_call.Submit u) c.requires.can.may (c.in-Submit.ensures c.args.scene.now c.requires.bound) c.pass_of_thread-pass.ensures in
-    let at : said_of (slice_get s.urbs u) ≡ c.said_of-said.result = sym (c.said_of-said.ensures ∙ ap (λ l. said_of (slice_get l u)) c.items.ensures) in
-    IfOk-weaker c.submit.result _ _ (λ told is f may. is s f c.args.thread
-    (may_make s f c.args.thread c.args.call.now c.args.self.now c.pass_of_thread-pass.result (host_call.Submit u) may (c.in-Submit.ensures c.args.scene.now c.requires.bound) c.pass_of_thread-pass.ensures) at) c.submit.ensures
+    c.submit.ensures s f c.args.thread c.args.call.now
+    (may_make s f c.args.thread c.args.call.now c.args.self.now c.pass_of_thread-pass.result (host_call.Submit u) may (c.in-Submit.ensures c.args.scene.now c.requires.bound) c.pass_of_thread-pass.ensures) c.in_ok-t.ensures
 
 pub returns-in-Serve : goal.returns-in-Serve
 returns-in-Serve c = IfOk-weaker c.serve_all.result _ _ (λ told is f may. is c.args.scene.now f c.args.thread c.args.call.now c.pass_of_thread-pass.result

@@ -1,0 +1,4 @@
+pub mod Here
+pub mod Serving
+pub mod Spares
+pub mod Opened
