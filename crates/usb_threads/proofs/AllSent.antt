@@ -12,16 +12,16 @@ use Rattle.usb_machine.specs.Legal.{IsLegal, empty, longer}
 use Rattle.usb_scene.specs.declared.scene.Scene.{Scene}
 use Rattle.usb_scene.specs.WellFormed.{IsWellFormed}
 use Rattle.usb_trace.specs.Plan.{machine_of}
-use Rattle.usb_trace.specs.Run.{Giveback, giveback_entries, given_entries, handler_entries, episode_of, is_aside}
+use Rattle.usb_trace.specs.Run.{Giveback, given_entries, episode_of, is_aside}
 use Rattle.usb_trace.proofs.Episodes.{episodes-append}
 use Rattle.usb_line.specs.Shows.{IsApt}
 use Rattle.usb_line.proofs.Serving.{no_middle}
 use Rattle.usb_threads.specs.Apt.{MayHave, SendsApt, AreApt}
-use Rattle.usb_threads.specs.Serving.{of_givebacks}
+use Rattle.usb_threads.specs.Serving.{of_givebacks, completion_entries, served_entries}
 use Rattle.usb_threads.proofs.Lists.{part-append}
 use Rattle.usb_threads.proofs.Gives.{gives_in, gives-append, servers_gives, gives_kept, given_one, one_give}
 use Rattle.usb_threads.proofs.Sending.{SendEach, SendEach-append, each_behind, are_apt, EndEach, ends_apt, as_many_episodes}
-use Rattle.usb_threads.proofs.Senders.{aside_sends, given_sends, handler_sends}
+use Rattle.usb_threads.proofs.Senders.{aside_sends, given_sends, completion_sends}
 
 -- an element of two lists stands in the first of them, or behind it
 abbrev IsWithin : {X : Type 0} → List X → List X → X → List X → List X → Type 0
@@ -46,7 +46,7 @@ module _ (s : Scene) (good : IsWellFormed s) where
     given = given_entries r.urb r.status r.finished
 
     abbrev others : List Entry
-    others = flat_map (giveback_entries s) rounds
+    others = flat_map (served_entries s) rounds
 
     first_sent : (es : List Episode) → es ++ more ≡ map episode_of (r ∷ rounds) → EndEach s es → 0 < length es → IsApt s r.urb r.sent
     first_sent [] e each some = absurd (omega arith)
@@ -54,42 +54,42 @@ module _ (s : Scene) (good : IsWellFormed s) where
 
     -- it is one of the first giveback
     inside : (es : List Episode) (xs zs : List Entry) → es ++ more ≡ map episode_of (r ∷ rounds) → EndEach s es → gives_in xs ≡ length es
-        → giveback_entries s r ≡ xs ++ x ∷ zs → SendsApt s x.event x.carried
-    inside es xs zs e each n is = go (within xs zs x given (handler_entries s r) (sym is))
+        → served_entries s r ≡ xs ++ x ∷ zs → SendsApt s x.event x.carried
+    inside es xs zs e each n is = go (within xs zs x given (completion_entries s r) (sym is))
       where
-        go : IsWithin xs zs x given (handler_entries s r) → SendsApt s x.event x.carried
+        go : IsWithin xs zs x given (completion_entries s r) → SendsApt s x.event x.carried
         go (inl k) = (each_behind s xs (x ∷ k.0) (subst (SendEach s) k.1 (given_sends s r.urb r.status r.finished))).0
         go (inr k) =
             let whole = ap gives_in k.1 in
             let parts = gives-append given k.0 in
             let one = given_one s r.urb r.status r.finished in
-            (each_behind s k.0 (x ∷ zs) (subst (SendEach s) (sym k.2) (handler_sends s good r (first_sent es e each (omega arith))))).0
+            (each_behind s k.0 (x ∷ zs) (subst (SendEach s) (sym k.2) (completion_sends s good r (first_sent es e each (omega arith))))).0
 
     -- or of a later one
     behind : (es : List Episode) (xs ws : List Entry) → es ++ more ≡ map episode_of (r ∷ rounds) → EndEach s es → gives_in xs ≡ length es
-        → xs ≡ giveback_entries s r ++ ws → ws ++ x ∷ ys ≡ others
+        → xs ≡ served_entries s r ++ ws → ws ++ x ∷ ys ≡ others
         → ((ds : List Episode) → ds ++ more ≡ map episode_of rounds → EndEach s ds → gives_in ws ≡ length ds → ws ++ x ∷ ys ≡ others → SendsApt s x.event x.carried)
         → SendsApt s x.event x.carried
     behind [] xs ws e each n is there next =
-        let whole = ap gives_in is in let parts = gives-append (giveback_entries s r) ws in let one = one_give s r in absurd (omega arith)
+        let whole = ap gives_in is in let parts = gives-append (served_entries s r) ws in let one = one_give s r in absurd (omega arith)
     behind (d ∷ es) xs ws e each n is there next =
-        let whole = ap gives_in is in let parts = gives-append (giveback_entries s r) ws in let one = one_give s r in
+        let whole = ap gives_in is in let parts = gives-append (served_entries s r) ws in let one = one_give s r in
         next es (cc (e)) each.1 (omega arith) there
 
   walk : (rounds : List Giveback) (es more : List Episode) (xs ys : List Entry) (x : Entry) → es ++ more ≡ map episode_of rounds → EndEach s es → gives_in xs ≡ length es
-      → xs ++ x ∷ ys ≡ flat_map (giveback_entries s) rounds → SendsApt s x.event x.carried
+      → xs ++ x ∷ ys ≡ flat_map (served_entries s) rounds → SendsApt s x.event x.carried
   walk [] es more xs ys x e each n is = absurd (no_middle xs x ys (sym is))
   walk (r ∷ rounds) es more xs ys x e each n is =
-      go (within xs ys x (giveback_entries s r) (flat_map (giveback_entries s) rounds) is) (λ ws ds. walk rounds ds more ws ys x)
+      go (within xs ys x (served_entries s r) (flat_map (served_entries s) rounds) is) (λ ws ds. walk rounds ds more ws ys x)
     where
-      go : IsWithin xs ys x (giveback_entries s r) (flat_map (giveback_entries s) rounds)
-          → ((ws : List Entry) (ds : List Episode) → ds ++ more ≡ map episode_of rounds → EndEach s ds → gives_in ws ≡ length ds → ws ++ x ∷ ys ≡ flat_map (giveback_entries s) rounds → SendsApt s x.event x.carried)
+      go : IsWithin xs ys x (served_entries s r) (flat_map (served_entries s) rounds)
+          → ((ws : List Entry) (ds : List Episode) → ds ++ more ≡ map episode_of rounds → EndEach s ds → gives_in ws ≡ length ds → ws ++ x ∷ ys ≡ flat_map (served_entries s) rounds → SendsApt s x.event x.carried)
           → SendsApt s x.event x.carried
       go (inl k) next = inside r rounds more ys x es xs k.0 e each n k.1
       go (inr k) next = behind r rounds more ys x es xs k.0 e each n k.1 k.2 (next k.0)
 
   -- the server made these givebacks in a legal history, and what the other passes send is apt
-  module _ (h : List Entry) (legal : IsLegal (machine_of s) h) (rounds : List Giveback) (entries : of_givebacks (part_of h SERVER) ≡ flat_map (giveback_entries s) rounds)
+  module _ (h : List Entry) (legal : IsLegal (machine_of s) h) (rounds : List Giveback) (entries : of_givebacks (part_of h SERVER) ≡ flat_map (served_entries s) rounds)
       (gives : episodes_of h ≡ map episode_of rounds) (others : (q : ℕ) → q ≢ SERVER → SendEach s (part_of h q)) where
     -- an entry of the history, after those before it
     module _ (k : List Entry) (x : Entry) (more : List Entry) (is : h ≡ k ++ x ∷ more) (before : IsLegal (machine_of s) k) (each : SendEach s k) where

@@ -31,10 +31,11 @@ use Rattle.usb_line.proofs.Lines.{line_is_run}
 use Rattle.usb_threads.specs.Passes.{IsReady}
 use Rattle.usb_threads.specs.MainPass.{read_answered, HasRead, none, one, IsMain}
 use Rattle.usb_threads.specs.Scripts.{IsJoined}
-use Rattle.usb_threads.specs.Serving.{IsServer}
+use Rattle.usb_threads.specs.Serving.{of_givebacks, served_entries, IsServer}
 use Rattle.usb_threads.specs.Promises.{IsPutTogether}
 use Rattle.usb_threads.proofs.Lists.{begins_prefix, part-append, part_longer, claimed_then}
 use Rattle.usb_threads.proofs.Threads.{done_are, done_told}
+use Rattle.usb_threads.proofs.Fitting.{EndSent, ends_sent, CarryEach, givebacks_carry, fits_legal}
 
 -- of two beginnings of a list the shorter begins the longer
 shorter : (h b a : List Entry) → Begins h a → Begins h b → length a ≤ length b → Begins b a
@@ -215,6 +216,11 @@ module _ (s : Scene) (good : IsWellFormed s) (f : Progress) (line : IsLineRun s 
     closed = in_wholes g h run.legal g.passes (pass_of s i) (is_pass s i l);
   }
 
+  -- what came back is there, and each of its handlers sent again what its home takes, since the history is legal
+  line_entries : of_givebacks (part_of h SERVER) ≡ flat_map (served_entries s) f.rounds
+  line_entries = run.together refl ∙ sym (fits_legal s good f.rounds (subst (EndSent g) run.gives (ends_sent g h run.legal))
+      (subst (CarryEach g) (run.together refl) (givebacks_carry g h run.legal SERVER)))
+
   is_server : IsServer s passes read f.rounds
   is_server = record {
     from = ready SERVER (λ e. main_not_server s (sym e));
@@ -224,7 +230,7 @@ module _ (s : Scene) (good : IsWellFormed s) (f : Progress) (line : IsLineRun s 
       more = part_of h SERVER;
       went = record { grown = record { number = refl; begins = opening_end; mine = refl }; sound = record { legal = run.legal; own = refl } };
       served = record {
-        entries = run.together refl;
+        entries = line_entries;
         gives = run.gives;
         firsts = run.firsts;
         replies = λ apt. run.replies;

@@ -1,5 +1,6 @@
 -- The Gives of a legal history are the server's, and each belongs to a giveback.
-use Rattle.std.proofs.Common.{ℕ, ◌≡◌, ◌≢◌, ◌+◌, Bool, true, false, not, cond, eqb, Option, List, [], ◌∷◌, ◌++◌, refl, sym, ap, ◌∙◌, arith, true≢false, eq-eqb}
+use Rattle.std.proofs.Common.{ℕ, ◌≡◌, ◌≢◌, ◌+◌, Bool, true, false, not, cond, eqb, Option, Some, None, List, [], ◌∷◌, ◌++◌, refl, sym, ap, ◌∙◌, arith, true≢false, eq-eqb}
+use Rattle.usb_types.specs.declared.errno.Errno.{Errno}
 use Rattle.usb_types.specs.declared.errno.Code.{Code}
 use Rattle.usb_types.specs.declared.errno.Code.TheVariants.{Zero, Fault}
 use Rattle.usb_machine.specs.declared.entry.TheConstants.{SERVER}
@@ -8,19 +9,23 @@ use Rattle.usb_machine.specs.declared.event.Event.TheVariants.{Give, End}
 use Rattle.usb_machine.specs.declared.event.Answer.{Answer}
 use Rattle.usb_machine.specs.declared.transfer.Transfer.{Transfer}
 use Rattle.usb_machine.specs.declared.entry.Entry.{Entry}
+use Rattle.usb_machine.specs.Shapes.{shape_fault}
+use Rattle.usb_machine.specs.State.{is_zero}
 use Rattle.usb_machine.specs.History.{Machine}
 use Rattle.usb_machine.specs.Parts.{part_of}
 use Rattle.usb_machine.specs.Legal.{May, IsLegal, empty, longer}
 use Rattle.usb_machine.specs.Calls.{plain_entry, submit_entries}
 use Rattle.usb_machine.proofs.Prefixes.{legal_beginning}
 use Rattle.usb_scene.specs.declared.scene.Scene.{Scene}
+use Rattle.usb_prepare.specs.Ends.{shape_at}
+use Rattle.usb_prepare.specs.Layout.{home}
 use Rattle.usb_trace.specs.declared.rows.Outcome.{Outcome}
 use Rattle.usb_trace.specs.declared.rows.Outcome.TheVariants as outcome
 use Rattle.usb_trace.specs.Plan.{DriverQuestion, question_at}
-use Rattle.usb_trace.specs.Run.{Giveback, is_aside, asked_entries, handled_by, handler_entries, given_entries, giveback_entries, moved_in, resent}
+use Rattle.usb_trace.specs.Run.{Giveback, is_aside, submit_of, rest_entry, asked_entries, given_entries, moved_in, resent}
 use Rattle.usb_trace.proofs.Episodes.{IsNoGive, HaveNoGive}
 use Rattle.usb_trace.proofs.AskedEach.{asked_each}
-use Rattle.usb_threads.specs.Serving.{of_givebacks}
+use Rattle.usb_threads.specs.Serving.{of_givebacks, completed_by, completion_entries, served_entries}
 use Rattle.usb_threads.proofs.Lists.{part-append}
 
 abbrev is_give : Event → Bool
@@ -94,19 +99,31 @@ module _ (s : Scene) where
   asked_none : (asking : Option DriverQuestion) (c : Code) → gives_in (asked_entries s asking c) ≡ 0
   asked_none asking c = asked_each s (λ xs. gives_in xs ≡ 0) asking c refl (λ a is none. submit_none SERVER a.urb a.transfer c)
 
-  handled_none : (u : ℕ) (back again : Transfer) (asking : Option DriverQuestion) (o : Outcome) → gives_in (handled_by s u back again asking o) ≡ 0
-  handled_none u back again asking outcome.Rest = refl
-  handled_none u back again asking (outcome.Again Zero) = refl
-  handled_none u back again asking (outcome.Again (Fault e)) = refl
-  handled_none u back again asking (outcome.Asked c) = let z = asked_none asking c in omega arith
+  again_none : (fault : Option Errno) (u : ℕ) (again : Transfer) (c : Code) → gives_in (submit_of fault SERVER u again c) ≡ 0
+  again_none (Some e) u again c = refl
+  again_none None u again c = submit_none SERVER u again c
+
+  completed_none : (u : ℕ) (back again : Transfer) (asking : Option DriverQuestion) (o : Outcome) → gives_in (completed_by s u back again asking o) ≡ 0
+  completed_none u back again asking outcome.Rest = refl
+  completed_none u back again asking (outcome.Again c) =
+      let fault = shape_fault (shape_at s (home s u)) again in
+      let a = again_none fault u again c in
+      let rests : List Entry = cond (is_zero c) [] (rest_entry SERVER u again ∷ []) in
+      let b = gives-append (submit_of fault SERVER u again c) rests in
+      let d = rested_none c in omega arith
+    where
+      rested_none : (c : Code) → gives_in (cond (is_zero c) [] (rest_entry SERVER u again ∷ [])) ≡ 0
+      rested_none Zero = refl
+      rested_none (Fault e) = refl
+  completed_none u back again asking (outcome.Asked c) = let z = asked_none asking c in omega arith
 
   pub given_one : (u : ℕ) (status : Code) (b : Bool) → gives_in (given_entries u status b) ≡ 1
   given_one u status true = refl
   given_one u status false = refl
 
-  pub one_give : (r : Giveback) → gives_in (giveback_entries s r) ≡ 1
+  pub one_give : (r : Giveback) → gives_in (served_entries s r) ≡ 1
   one_give r =
-      let a = gives-append (given_entries r.urb r.status r.finished) (handler_entries s r) in
+      let a = gives-append (given_entries r.urb r.status r.finished) (completion_entries s r) in
       let b = given_one r.urb r.status r.finished in
-      let c = gives-append (handled_by s r.urb (moved_in s r) (resent s r) (question_at s r.urb) r.outcome) (plain_entry SERVER (End record { 0 = r.urb }) ∷ []) in
-      let d = handled_none r.urb (moved_in s r) (resent s r) (question_at s r.urb) r.outcome in omega arith
+      let c = gives-append (completed_by s r.urb (moved_in s r) (resent s r) (question_at s r.urb) r.outcome) (plain_entry SERVER (End record { 0 = r.urb }) ∷ []) in
+      let d = completed_none r.urb (moved_in s r) (resent s r) (question_at s r.urb) r.outcome in omega arith

@@ -14,13 +14,13 @@ use Rattle.usb_machine.specs.Parts.{part_of}
 use Rattle.usb_machine.specs.Calls.{entry}
 use Rattle.usb_scene.specs.declared.scene.Scene.{Scene}
 use Rattle.usb_trace.specs.Plan.{machine_of}
-use Rattle.usb_trace.specs.Run.{Giveback, is_aside, giveback_entries, episode_of, is_first, firsts_of, IsGiveback}
+use Rattle.usb_trace.specs.Run.{Giveback, is_aside, episode_of, is_first, firsts_of, IsGiveback}
 use Rattle.usb_trace.proofs.Dues.{replies-push}
 use Rattle.usb_trace.proofs.Episodes.{HaveNoGive, no_episode, no_first_given, episodes-append, firsts-append}
 use Rattle.usb_machine.specs.Fresh.{Known, Sound}
 use Rattle.usb_line.proofs.Returning.{AreHandled-push}
 use Rattle.usb_threads.specs.Passes.{WentOn}
-use Rattle.usb_threads.specs.Serving.{of_givebacks, HasServed, GaveNothing, Gave}
+use Rattle.usb_threads.specs.Serving.{of_givebacks, served_entries, HasServed, GaveNothing, Gave}
 use Rattle.usb_threads.proofs.Firsts.{AreFirst, AreFirst-push, firsts_each}
 use Rattle.usb_threads.proofs.Sending.{apt_before}
 use Rattle.usb_threads.proofs.Gives.{gives_in, gives-append, none_given, servers_gives, gives_kept, one_give}
@@ -96,7 +96,7 @@ module _ (s : Scene) (rounds : List Giveback) (p q : Known) (number : p.number �
     pub gives_more : HasServed s q.seen q.mine (rounds ++ r ∷ [])
     gives_more = record {
       entries = ap of_givebacks gave.went.grown.mine ∙ (kept-append p.mine gave.more ∙ ((λ i. old.entries i ++ gave.entries i)
-          ∙ (ap (λ l. flat_map (giveback_entries s) rounds ++ l) (sym (append-nil (giveback_entries s r))) ∙ sym (flat_map-append (giveback_entries s) rounds (r ∷ [])))));
+          ∙ (ap (λ l. flat_map (served_entries s) rounds ++ l) (sym (append-nil (served_entries s r))) ∙ sym (flat_map-append (served_entries s) rounds (r ∷ [])))));
       gives = episodes;
       firsts = subst (AreFirst (rounds ++ r ∷ [])) (sym first_is) (AreFirst-push rounds (firsts_of g p.seen) r (is_first r.urb (pending_of g gave.before (home_of g r.urb))) as_many old.firsts gave.first);
       replies = λ apt. replies-push s rounds r (old.replies (apt_before s q.seen p.seen gave.went.grown.begins apt)) (gave.replies apt);

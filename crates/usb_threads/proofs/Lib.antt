@@ -5,6 +5,7 @@ pub mod Gives
 pub mod Sending
 pub mod Senders
 pub mod AllSent
+pub mod Fitting
 pub mod Firsts
 pub mod Giving
 pub mod Threads

@@ -1,5 +1,5 @@
 -- What main, the threads and the handlers send their URBs may have.
-use Rattle.std.proofs.Common.{ℕ, zero, suc, ◌≡◌, Bool, true, false, not, Option, Some, None, List, [], ◌∷◌, ◌++◌, map, refl, sym, ap, ◌∙◌, subst, true≢false}
+use Rattle.std.proofs.Common.{ℕ, zero, suc, ◌≡◌, Bool, true, false, cond, not, Option, Some, None, List, [], ◌∷◌, ◌++◌, map, refl, sym, ap, ◌∙◌, subst, true≢false}
 use Rattle.std.specs.Prelude.{All}
 use Rattle.std.specs.List.{flat_map}
 use Rattle.std.proofs.lemmas.List.Elements.{All-head, All-tail}
@@ -15,6 +15,7 @@ use Rattle.usb_machine.specs.declared.event.Answer.{Answer}
 use Rattle.usb_machine.specs.declared.transfer.Transfer.{Transfer}
 use Rattle.usb_machine.specs.declared.entry.Entry.{Entry}
 use Rattle.usb_machine.specs.Shapes.{shape_fault}
+use Rattle.usb_machine.specs.State.{is_zero}
 use Rattle.usb_machine.specs.Calls.{plain_entry, submit_entries, marks_of, claims_of}
 use Rattle.usb_scene.specs.declared.scene.Scene.{Scene}
 use Rattle.usb_scene.specs.declared.scene.Call.{Call as SceneCall}
@@ -29,7 +30,7 @@ use Rattle.usb_trace.specs.declared.rows.Outcome.{Outcome}
 use Rattle.usb_trace.specs.declared.rows.Outcome.TheVariants as outcome
 use Rattle.usb_trace.specs.Plan.{owner_of, number_of, read_of, fresh, submit_fault, host_call_of, pass_of, main_pass, DriverQuestion, question_at}
 use Rattle.usb_trace.specs.Claims.{numbers_of}
-use Rattle.usb_trace.specs.Run.{CallRecord, Giveback, urbs_of, submit_of, killed_by, host_call_entries, call_entries, read_entries_by, read_entries, moved_in, resent, asked_entries, handled_by, handler_entries, given_entries, is_aside, kills_of, seen_quiet, closing}
+use Rattle.usb_trace.specs.Run.{CallRecord, Giveback, urbs_of, submit_of, killed_by, host_call_entries, call_entries, read_entries_by, read_entries, moved_in, resent, rest_entry, asked_entries, given_entries, is_aside, kills_of, seen_quiet, closing}
 use Rattle.usb_trace.proofs.AskedEach.{asked_each}
 use Rattle.usb_trace.proofs.Stills.{IsStill, AreStill, flags_still, unflags_still, marks_still}
 use Rattle.usb_line.specs.Shows.{IsApt}
@@ -41,6 +42,7 @@ use Rattle.usb_line.proofs.Reading.{read_parts}
 use Rattle.usb_line.proofs.ReadsFollow.{reads, reads-push}
 use Rattle.usb_line.proofs.Closing.{seen_still}
 use Rattle.usb_threads.specs.Apt.{SendsApt}
+use Rattle.usb_threads.specs.Serving.{completed_by, completion_entries}
 use Rattle.usb_threads.proofs.Sending.{SendEach, SendEach-append}
 
 module _ (s : Scene) where
@@ -148,12 +150,20 @@ module _ (s : Scene) where
       again_apt : IsApt s r.urb (resent s r)
       again_apt = resent_apt s r.urb r.sent r.replies r.status apt
 
-      handled_sends : (o : Outcome) → SendEach s (handled_by s r.urb (moved_in s r) (resent s r) (question_at s r.urb) o)
-      handled_sends outcome.Rest = (tt, tt)
-      handled_sends (outcome.Again Zero) = (again_apt, (tt, tt))
-      handled_sends (outcome.Again (Fault e)) = (again_apt, (tt, tt))
-      handled_sends (outcome.Asked c) = (tt, asked_send r.urb (question_at s r.urb) c refl)
+      resent_sends : (fault : Option Errno) (c : Code) → SendEach s (submit_of fault SERVER r.urb (resent s r) c)
+      resent_sends (Some e) c = tt
+      resent_sends None c = submit_sends SERVER r.urb (resent s r) c again_apt
 
-      pub handler_sends : SendEach s (handler_entries s r)
-      handler_sends = SendEach-append s (handled_by s r.urb (moved_in s r) (resent s r) (question_at s r.urb) r.outcome) (plain_entry SERVER (End record { 0 = r.urb }) ∷ [])
-          (handled_sends r.outcome) (tt, tt)
+      rested_sends : (c : Code) → SendEach s (cond (is_zero c) [] (rest_entry SERVER r.urb (resent s r) ∷ []))
+      rested_sends Zero = tt
+      rested_sends (Fault e) = (tt, tt)
+
+      completed_sends : (o : Outcome) → SendEach s (completed_by s r.urb (moved_in s r) (resent s r) (question_at s r.urb) o)
+      completed_sends outcome.Rest = (tt, tt)
+      completed_sends (outcome.Again c) = let fault = shape_fault (shape_at s (home s r.urb)) (resent s r) in
+          SendEach-append s (submit_of fault SERVER r.urb (resent s r) c) (cond (is_zero c) [] (rest_entry SERVER r.urb (resent s r) ∷ [])) (resent_sends fault c) (rested_sends c)
+      completed_sends (outcome.Asked c) = (tt, asked_send r.urb (question_at s r.urb) c refl)
+
+      pub completion_sends : SendEach s (completion_entries s r)
+      completion_sends = SendEach-append s (completed_by s r.urb (moved_in s r) (resent s r) (question_at s r.urb) r.outcome) (plain_entry SERVER (End record { 0 = r.urb }) ∷ [])
+          (completed_sends r.outcome) (tt, tt)

@@ -91,6 +91,9 @@ module _ (s : Scene) where
   pub ends_apt : (h : List Entry) → SendEach h → EndEach (episodes_of h)
   ends_apt h each = ends_after [] h each
 
+  pub episodes_apt : (h : List Entry) → AreApt s h → EndEach (episodes_of h)
+  episodes_apt h apt = ends_apt h (all_each h apt.each)
+
 -- each Give ends an episode
 pub as_many_episodes : (b xs : List Entry) → length (episodes_after b xs) ≡ gives_in xs
 as_many_episodes b [] = refl

@@ -23,7 +23,7 @@ use Rattle.usb_scene.specs.WellFormed.{IsCall, IsWellFormed}
 use Rattle.usb_prepare.specs.Layout.{urb_count}
 use Rattle.usb_trace.specs.Plan.{machine_of, pass_of, main_pass}
 use Rattle.usb_trace.specs.Claims.{claimed_by, numbers_of}
-use Rattle.usb_trace.specs.Run.{CallRecord, Giveback, urbs_of, firsts_of, call_entries, claims_in, episode_of, done_by, opening, closing, kills_of, seen_quiet, IsMade, AreFound, IsOver, IsFramed, IsRun}
+use Rattle.usb_trace.specs.Run.{CallRecord, Giveback, urbs_of, firsts_of, call_entries, claims_in, giveback_entries, episode_of, done_by, opening, closing, kills_of, seen_quiet, IsMade, AreFound, IsOver, IsFramed, IsRun}
 use Rattle.usb_trace.proofs.Episodes.{HaveNoGive, no_episode, no_first_given}
 use Rattle.usb_line.proofs.Passes.{main_is_pass, is_thread}
 use Rattle.usb_line.proofs.Lines.{in_pending_once, no_urbs}
@@ -39,9 +39,10 @@ use Rattle.usb_threads.proofs.Closed.{closed_begins, closed_own, closed_none}
 use Rattle.usb_threads.proofs.Accepting.{reads_accepted}
 use Rattle.usb_threads.proofs.Quiet.{kept_all}
 use Rattle.usb_threads.proofs.Gives.{none_given, servers_after, gives_in}
-use Rattle.usb_threads.proofs.Sending.{SendEach, SendEach-append, apt_before}
+use Rattle.usb_threads.proofs.Sending.{SendEach, SendEach-append, EndEach, apt_before, episodes_apt}
 use Rattle.usb_threads.proofs.Senders.{reads_send, closing_sends, calls_send}
 use Rattle.usb_threads.proofs.AllSent.{all_apt}
+use Rattle.usb_threads.proofs.Fitting.{EndSent, ends_sent, fits_apt}
 use Rattle.usb_threads.proofs.Firsts.{AreFirst}
 use Rattle.usb_threads.proofs.Threads.{AreBy, all_of, all_told}
 
@@ -263,6 +264,11 @@ module _ (s : Scene) (h : List Entry) (made : ℕ → List CallRecord) (rounds :
   apt : AreApt s h
   apt = all_apt s good h legal rounds (server_entries ∙ served.entries) given_back others_send
 
+  -- and each handler's are the run's entries
+  run_entries : of_givebacks (part_of h SERVER) ≡ flat_map (giveback_entries s) rounds
+  run_entries = server_entries ∙ (served.entries ∙ fits_apt s good rounds
+      (subst (EndEach s) given_back (episodes_apt s h apt)) (subst (EndSent g) given_back (ends_sent g h legal)))
+
   -- what each thread made is there, by its thread
   whose : (i : ℕ) → i < length s.threads → AreBy i (made i)
   whose i l = (joined i l).worked.made.whose
@@ -288,9 +294,9 @@ module _ (s : Scene) (h : List Entry) (made : ℕ → List CallRecord) (rounds :
     threads = λ i l. thread_part i l ∙ ap (flat_map (call_entries s)) (sym (done i l));
     claims = λ i l. thread_claims i l ∙ ap (flat_map (claims_in s)) (sym (done i l));
     framed = is_framed;
-    server = of_controller s (part_of h SERVER) rounds (server_entries ∙ served.entries);
-    handlers = of_handlers s (part_of h SERVER) rounds (server_entries ∙ served.entries);
-    together = λ same. server_entries ∙ served.entries;
+    server = of_controller s (part_of h SERVER) rounds run_entries;
+    handlers = of_handlers s (part_of h SERVER) rounds run_entries;
+    together = λ same. run_entries;
     others = λ q off main none. spare_none q off main none;
     gives = given_back;
     firsts = subst (AreFirst rounds) (sym (ap (firsts_of g) server_end.is ∙ no_first_given g to.seen rest no_give)) served.firsts;

@@ -1,18 +1,25 @@
 -- What the controller promises of the server's pass, whose entries are the takes, the finishes, the givebacks and their handlers.
-use Rattle.std.specs.Prelude.{ℕ, ◌≡◌, ◌<◌, true, not, filter, List, [], ◌∷◌, ◌++◌, length, map, slice_get, Some, None, All, Contains}
+use Rattle.std.specs.Prelude.{ℕ, ◌≡◌, ◌<◌, true, not, filter, if◌then◌else◌, List, [], ◌∷◌, ◌++◌, length, map, slice_get, Option, Some, None, All, Contains}
 use Rattle.std.specs.List.{flat_map}
 use Rattle.usb_machine.specs.declared.entry.TheConstants.{SERVER}
 use Rattle.usb_machine.specs.declared.event.Event.TheVariants.{Give}
 use Rattle.usb_machine.specs.declared.event.Answer.TheVariants.{Code as Status}
 use Rattle.usb_machine.specs.declared.entry.Entry.{Entry}
 use Rattle.usb_machine.specs.History.{home_of, pending_of, sent_of, episodes_of}
-use Rattle.usb_machine.specs.Calls.{entry}
+use Rattle.usb_machine.specs.declared.event.Event.TheVariants.{End}
+use Rattle.usb_machine.specs.declared.transfer.Transfer.{Transfer}
+use Rattle.usb_machine.specs.Shapes.{shape_fault}
+use Rattle.usb_machine.specs.State.{is_zero}
+use Rattle.usb_machine.specs.Calls.{entry, plain_entry}
 use Rattle.usb_machine.specs.Fresh.{Known, Begins}
 use Rattle.usb_scene.specs.declared.scene.Scene.{Scene}
+use Rattle.usb_prepare.specs.Ends.{shape_at}
 use Rattle.usb_prepare.specs.Layout.{home}
-use Rattle.usb_trace.specs.Plan.{machine_of}
+use Rattle.usb_trace.specs.declared.rows.Outcome.{Outcome}
+use Rattle.usb_trace.specs.declared.rows.Outcome.TheVariants as outcome
+use Rattle.usb_trace.specs.Plan.{machine_of, handlers_pass, DriverQuestion, question_at}
 use Rattle.usb_trace.specs.Due.{next_due}
-use Rattle.usb_trace.specs.Run.{Giveback, is_aside, giveback_entries, episode_of, is_first, firsts_of, rounds_at, replies_in, asked_in, asked_of, IsGiveback, moved_in, acts, IsHandled, AreHandled}
+use Rattle.usb_trace.specs.Run.{Giveback, is_aside, submit_of, rest_entry, given_entries, handled_by, resent, episode_of, is_first, firsts_of, rounds_at, replies_in, asked_in, asked_of, IsGiveback, moved_in, acts, IsHandled, AreHandled}
 use Rattle.usb_threads.specs.Passes.{WentOn, IsReady}
 use Rattle.usb_threads.specs.Apt.{AreApt}
 
@@ -20,10 +27,24 @@ use Rattle.usb_threads.specs.Apt.{AreApt}
 abbrev pub of_givebacks : List Entry → List Entry
 of_givebacks m = filter (λ x. not (is_aside x.event x.answer)) m
 
+-- what a handler adds: its URB's home may not take what goes again, and then the submit makes no entry
+abbrev pub completed_by : Scene → ℕ → Transfer → Transfer → Option DriverQuestion → Outcome → List Entry
+completed_by s u back again asking outcome.Rest = handled_by s u back again asking outcome.Rest
+completed_by s u back again asking (outcome.Again code) =
+    submit_of (shape_fault (shape_at s (home s u)) again) (handlers_pass s) u again code ++ (if is_zero code then [] else rest_entry (handlers_pass s) u again ∷ [])
+completed_by s u back again asking (outcome.Asked code) = handled_by s u back again asking (outcome.Asked code)
+
+abbrev pub completion_entries : Scene → Giveback → List Entry
+completion_entries s r = completed_by s r.urb (moved_in s r) (resent s r) (question_at s r.urb) r.outcome ++ plain_entry (handlers_pass s) (End record { 0 = r.urb }) ∷ []
+
+-- a giveback with its handler. Where each transfer that was sent is one that its URB may have, these are the run's
+abbrev pub served_entries : Scene → Giveback → List Entry
+served_entries s r = given_entries r.urb r.status r.finished ++ completion_entries s r
+
 -- the server, which has seen this history and has these entries of its own, made these givebacks, each with its handler right after it.
 -- Their replies are those that were due, if each transfer that was sent in what it has seen is one that its URB may have
 pub record HasServed (s : Scene) (seen mine : List Entry) (rounds : List Giveback) : Type 0 where
-  pub entries : of_givebacks mine ≡ flat_map (giveback_entries s) rounds
+  pub entries : of_givebacks mine ≡ flat_map (served_entries s) rounds
   pub gives : episodes_of seen ≡ map episode_of rounds
   pub firsts : (k : ℕ) (r : Giveback) → slice_get rounds k ≡ Some r → 0 < length r.replies → slice_get (firsts_of (machine_of s) seen) k ≡ Some true
   pub replies : AreApt s seen → (e : ℕ) → replies_in (rounds_at s e rounds) ≡ next_due s e [] (asked_of s e rounds)
@@ -54,7 +75,7 @@ pub record GaveNothing (s : Scene) (p q : Known) : Type 0 where
 pub record Gave (s : Scene) (rounds : List Giveback) (p q : Known) (r : Giveback) : Type 0 where
   pub more : List Entry
   pub went : WentOn (machine_of s) p q more
-  pub entries : of_givebacks more ≡ giveback_entries s r
+  pub entries : of_givebacks more ≡ served_entries s r
   -- the history before its Give, which begins with all that the pass had seen
   pub before : List Entry
   pub later : List Entry
