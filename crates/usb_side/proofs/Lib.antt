@@ -3,6 +3,8 @@ pub mod Knowing
 pub mod Calls
 pub mod Over
 pub mod Rows
+pub mod Placed
+pub mod Replying
 pub mod Turned
 pub mod Handling
 pub mod Behind
