@@ -9,3 +9,4 @@ pub mod Turned
 pub mod Handling
 pub mod Behind
 pub mod Staying
+pub mod Learning

@@ -566,10 +566,13 @@ module _ {X : Type 0} (machine_of : X → Machine) (here : X) where
                       first_stays (known l.side).seen (known y.side).seen (first_at l.ends d) (first_at y.ends d) (firsts d off)
                       (λ u is. sent_stays l.side y.side wl.at at.sound more last d u (pending_at l.side wl.at l.ends holds d u is)
                       (ended_others replies items_used x t l m y e moves v a w wl holds passed z d u (pending_at y.side at y.ends held_y d u (firsts d off ∙ is)))));
-                  left = (back.0, subst (λ k. Stood start mid (with_replies e [] old) k back.0.sent back.0.replies) (ended_home replies items_used x t l m y e moves v a w wl holds passed z)
-                      (Stood.first (back.1 ∙ sym (start_of (known l.side).seen l.ends e z.moves.row z.moves.first z.moves.others by.held.start row z.moves.held by.held.sent))
-                      (back.2 ∙ (ap (λ rs. rs ++ z.moves.more) (by.is ∙ sym old_e) ∙ sym (with_here e (old e ++ z.moves.more) old)))
-                      (λ d. with_twice e d [] (old e ++ z.moves.more) old)));
+                  left = (
+                    back.0,
+                    subst (λ k. Stood start mid (with_replies e [] old) k back.0.sent back.0.replies) (ended_home replies items_used x t l m y e moves v a w wl holds passed z)
+                        (Stood.first (back.1 ∙ sym (start_of (known l.side).seen l.ends e z.moves.row z.moves.first z.moves.others by.held.start row z.moves.held by.held.sent))
+                        (back.2 ∙ (ap (λ rs. rs ++ z.moves.more) (by.is ∙ sym old_e) ∙ sym (with_here e (old e ++ z.moves.more) old)))
+                        (λ d. with_twice e d [] (old e ++ z.moves.more) old)),
+                  );
                 }
 
             -- an URB comes back that was marked: the first of its endpoint, or one behind it
@@ -625,24 +628,22 @@ module _ {X : Type 0} (machine_of : X → Machine) (here : X) where
                 placed [] is =
                     let by = so_t.first e gm.row gm.held gm.after row (gm.parts ∙ ap (λ hs. hs ++ gm.held ∷ gm.after) is) in
                     let back = gives_marked x t m l y e place v a w holds looked found gm shaped_t by.held (inl is) in
-                    let now_is : (d : ℕ) → without_place e place so d ≡ with_replies e [] so d = λ d. ap (λ n. without_place e n so d) (sym gm.long ∙ ap length is) in
-                    (
+                    let now_is : (d : ℕ) → without_place e place so d ≡ with_replies e [] so d = λ d. ap (λ n. without_place e n so d) (sym gm.long ∙ ap length is) in (
                       back.0,
                       subst (λ k. Stood (first_sent (known t.side).seen t.ends) so (without_place e place so) k back.0.sent back.0.replies) at_home
-                      (Stood.first (back.1 ∙ sym (start_of (known t.side).seen t.ends e gm.row gm.held gm.after by.held.start row (gm.parts ∙ ap (λ hs. hs ++ gm.held ∷ gm.after) is) by.held.sent)) (back.2 ∙ by.is) now_is),
+                          (Stood.first (back.1 ∙ sym (start_of (known t.side).seen t.ends e gm.row gm.held gm.after by.held.start row (gm.parts ∙ ap (λ hs. hs ++ gm.held ∷ gm.after) is) by.held.sent)) (back.2 ∙ by.is) now_is),
                       λ d some. (let off : d ≢ e = λ same. (let n = ap length (now_is d ∙ (ap (λ k. with_replies e [] so k) same ∙ with_here e [] so)) in absurd (omega arith)) in
-                      ap (λ (k : Serving S D). first_at k.ends d) gm.is ∙ (ap (λ o. first_of (urbs_in (held_in o))) (set_other l.ends e d _ off) ∙ looked_first d)),
+                          ap (λ (k : Serving S D). first_at k.ends d) gm.is ∙ (ap (λ o. first_of (urbs_in (held_in o))) (set_other l.ends e d _ off) ∙ looked_first d)),
                     )
                 placed (b ∷ bs) is =
                     let parts : gm.row.held.items ≡ (b ∷ bs) ++ gm.held ∷ gm.after = gm.parts ∙ ap (λ hs. hs ++ gm.held ∷ gm.after) is in
                     let held = later_held (knows t.side) t.ends holds e gm.row b bs gm.held gm.after row parts in
                     let back = gives_marked x t m l y e place v a w holds looked found gm shaped_t held.0 (inr held.1) in
-                    let now_is : (d : ℕ) → without_place e place so d ≡ so d = λ d. ap (λ n. without_place e n so d) (sym gm.long ∙ ap length is) ∙ place_later e (length bs) d so in
-                    (
+                    let now_is : (d : ℕ) → without_place e place so d ≡ so d = λ d. ap (λ n. without_place e n so d) (sym gm.long ∙ ap length is) ∙ place_later e (length bs) d so in (
                       back.0,
                       Stood.behind (back.2 ∙ held.1) now_is,
                       λ d some. ap (λ (k : Serving S D). first_at k.ends d) gm.is ∙ (ap (λ hs. first_at (slice_set l.ends e (with_held (hs ++ gm.after) gm.row)) d) is
-                      ∙ (same_first l.ends (slice_set l.ends e (with_held ((b ∷ bs) ++ gm.after) gm.row)) (left_first l.ends e gm.row b bs gm.held gm.after gm.at parts) d ∙ looked_first d)),
+                          ∙ (same_first l.ends (slice_set l.ends e (with_held ((b ∷ bs) ++ gm.after) gm.row)) (left_first l.ends e gm.row b bs gm.held gm.after gm.at parts) d ∙ looked_first d)),
                     )
 
             -- what a turn did, by what it did to the replies so far

@@ -4,6 +4,7 @@
 mod beginning;
 mod giving;
 mod handlers;
+pub mod laws;
 mod side;
 mod step;
 
