@@ -35,7 +35,7 @@ fault_by Out shape t replies = refl
 fault_by ControlIn shape t replies = refl
 fault_by ControlOut shape t replies = refl
 
-held_fits : (k : Knows) (shape : Shape) (h : Held) → IsHeld k shape h → shape_fault shape h.transfer ≡ None
+pub held_fits : (k : Knows) (shape : Shape) (h : Held) → IsHeld k shape h → shape_fault shape h.transfer ≡ None
 held_fits k shape h o = ap (shape_fault shape) o.moved_so ∙ (fault_by (direction_of shape o.start) shape o.start o.before ∙ o.fits)
 
 -- a transfer as it was taken was moved by no reply
@@ -46,13 +46,13 @@ new_moved k shape h P sent window fits unmoved unfinished = record {
   open_so = λ p. refl;
 }
 
-with_here : (e : ℕ) (replies : List Reply) (so : ℕ → List Reply) → with_replies e replies so e ≡ replies
+pub with_here : (e : ℕ) (replies : List Reply) (so : ℕ → List Reply) → with_replies e replies so e ≡ replies
 with_here e replies so = ap (λ b. cond b replies (so e)) (eq-eqb e e refl)
 
-with_there : (e f : ℕ) (replies : List Reply) (so : ℕ → List Reply) → f ≢ e → with_replies e replies so f ≡ so f
+pub with_there : (e f : ℕ) (replies : List Reply) (so : ℕ → List Reply) → f ≢ e → with_replies e replies so f ≡ so f
 with_there e f replies so off = ap (λ b. cond b replies (so f)) (ne_eqb f e off)
 
-place_later : (e n f : ℕ) (so : ℕ → List Reply) → without_place e (suc n) so f ≡ so f
+pub place_later : (e n f : ℕ) (so : ℕ → List Reply) → without_place e (suc n) so f ≡ so f
 place_later e n f so = ap (λ b. cond b (with_replies e [] so f) (so f)) (ne_eqb (suc n) 0 (λ is. absurd (omega arith)))
 
 -- less is asked

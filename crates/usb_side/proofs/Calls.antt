@@ -234,7 +234,7 @@ module _ (g : Machine) (p q : Known) (server : p.number ≡ SERVER) (sound : Sou
       gone = gone w;
     }
 
-    apart : ((d : ℕ) × Contains (pending_of g p.mine d) u.0) → (e v : ℕ) → Contains (pending_of g q.mine e) v → v ≢ u.0
+    pub apart : ((d : ℕ) × Contains (pending_of g p.mine d) u.0) → (e v : ℕ) → Contains (pending_of g q.mine e) v → v ≢ u.0
     apart w e v c is = gone w e (subst (λ (k : ℕ). Contains (pending_of g q.mine e) k) is c)
 
     others : (v : ℕ) → v ≢ u.0 → state_of q.seen v ≡ state_of j.before v

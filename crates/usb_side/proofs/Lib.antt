@@ -3,7 +3,10 @@ pub mod Knowing
 pub mod Calls
 pub mod Over
 pub mod Rows
+pub mod Placed
+pub mod Replying
 pub mod Turned
 pub mod Handling
 pub mod Behind
 pub mod Staying
+pub mod Learning

@@ -26,7 +26,7 @@ IsHandlers (Finish u c) a = ⊥
 IsHandlers (Give u) a = ⊥
 IsHandlers e a = Unit {0}
 
-gives_none : (u : ℕ) (xs : List Entry) → AllAre IsHandlers xs → AllAre (NoGive u) xs
+pub gives_none : (u : ℕ) (xs : List Entry) → AllAre IsHandlers xs → AllAre (NoGive u) xs
 gives_none u [] a = tt
 gives_none u (x ∷ xs) a = (go x.event x.answer a.0, gives_none u xs a.1)
   where

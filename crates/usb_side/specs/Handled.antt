@@ -20,7 +20,7 @@ use Rattle.usb_machine.specs.HostCalls.{fault_at, shape_of}
 use Rattle.usb_serve.specs.declared.handler.Outcome.{Outcome}
 use Rattle.usb_serve.specs.declared.handler.Outcome.TheVariants as outcome
 use Rattle.usb_serve.specs.Handlers.{windowed}
-use Rattle.std.specs.Prelude.{Bool, true}
+use Rattle.std.specs.Prelude.{Bool, true, length, ◌<◌}
 use mathlib.Core.List.{IsPrefix}
 use Rattle.usb_machine.specs.declared.event.Event.TheVariants.{Give}
 use Rattle.usb_machine.specs.declared.event.Answer.TheVariants.{Code as Status}
@@ -108,7 +108,7 @@ pub record Gave {K : Type 0} (g : Machine) (completes : K → UrbId → Code →
   pub late : IsPrefix p.seen before
   pub split : q.seen ≡ before ++ entry SERVER (Give u) (Status status) None ∷ behind
   pub was_sent : sent_of before u.0 ≡ Some sent
-  pub first : finished ≡ true → is_first u.0 (pending_of g before (home_of g u.0)) ≡ true
+  pub first : 0 < length replies → is_first u.0 (pending_of g before (home_of g u.0)) ≡ true
   pub state : finished ≡ true → moved_state shape sent replies ≡ Ended status
   pub whole : IsWhole shape sent replies
   pub handles : Handles completes asks unasks h u status (moved shape sent replies) asking again o new

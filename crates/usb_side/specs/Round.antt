@@ -1,5 +1,5 @@
 -- What a turn of the controller does to the server's entries.
-use Rattle.std.specs.Prelude.{ℕ, ◌≡◌, Bool, true, false, not, ◌==◌, filter, if◌then◌else◌, List, [], ◌∷◌, ◌++◌, Option, Some, None}
+use Rattle.std.specs.Prelude.{ℕ, ◌≡◌, ◌<◌, Bool, true, false, not, ◌==◌, filter, if◌then◌else◌, List, [], ◌∷◌, ◌++◌, length, slice_get, Option, Some, None}
 use mathlib.Core.List.{IsPrefix}
 use Rattle.usb_types.specs.declared.errno.Code.{Code}
 use Rattle.usb_machine.specs.declared.entry.TheConstants.{SERVER}
@@ -46,8 +46,8 @@ pub record GaveNothing (g : Machine) (p q : Known) : Type 0 where
   pub sound : Sound g q
   pub aside : of_givebacks more ≡ []
 
--- it gave one URB back: its status, whether its transfer's result is the status, the transfer that was sent, and the replies
--- that moved it
+-- it gave one URB back: its status, whether its transfer's result is the status, the shape of its home, the transfer that was
+-- sent, and the replies that moved it. Only the first pending one has replies
 pub record GaveBack (g : Machine) (p q : Known) (u : ℕ) (status : Code) (t : Option Transfer) : Type 0 where
   pub finished : Bool
   pub shape : Shape
@@ -60,10 +60,11 @@ pub record GaveBack (g : Machine) (p q : Known) (u : ℕ) (status : Code) (t : O
   pub before : List Entry
   pub late : IsPrefix p.seen before
   pub split : q.seen ≡ before ++ entry SERVER (Give record { 0 = u }) (Status status) None ∷ []
+  pub at : slice_get g.layout.shapes (home_of g u) ≡ Some shape
   pub was_sent : sent_of before u ≡ Some sent
   pub back : t ≡ Some (moved shape sent replies)
   pub window : HasWindow sent
-  pub first : finished ≡ true → is_first u (pending_of g before (home_of g u)) ≡ true
+  pub first : 0 < length replies → is_first u (pending_of g before (home_of g u)) ≡ true
   pub state : finished ≡ true → moved_state shape sent replies ≡ Ended status
   pub whole : IsWhole shape sent replies
 

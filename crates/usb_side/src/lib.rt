@@ -10,6 +10,9 @@ mod step;
 
 pub use beginning::begin;
 pub use giving::give_back;
-pub use laws::{a_completion_keeps_the_agreement, a_completion_keeps_the_replies};
+pub use laws::{
+    a_completion_keeps_the_agreement, a_completion_keeps_the_replies, a_look_keeps_the_replies,
+    a_wake_keeps_the_replies,
+};
 pub use side::HostSide;
 pub use step::{one_step, turn_once};

@@ -1,8 +1,11 @@
 //! A turn of the controller over a host.
-ghost use Rattle.std.specs.Prelude.{ℕ, ◌≡◌, ◌<◌, ◌^◌, Option, Some, None, option_map, Contains};
+ghost use Rattle.std.specs.Prelude.{ℕ, ◌≡◌, ◌<◌, ◌^◌, List, Option, Some, None, option_map, Contains};
 ghost use Rattle.usb_serve.specs.Held.{Agrees};
 ghost use Rattle.usb_side.specs.Side.{IsWholeSide, side_knows};
 ghost use Rattle.usb_side.specs.Round.{TurnGave};
+ghost use Rattle.usb_side.specs.Went.{TurnWent};
+ghost use Rattle.usb_serve.specs.SoFar.{IsSoFar};
+ghost use Rattle.usb_xfer.specs.Replies.{Reply};
 ghost use Rattle.usb_side.specs.Handled.{Stepped};
 ghost use Rattle.usb_machine.specs.History.{HasHome};
 
@@ -14,7 +17,7 @@ use usb_serve::{Controller, Handler, Outcome, Turn};
 use usb_types::Memory;
 use usb_xfer::Device;
 
-/// Makes one turn, which gives back one URB or none.
+/// Makes one turn, which gives back one URB or none. What the devices replied is told for all that are the replies so far.
 pub fn turn_once<H: Serves, R: Wait, D: Device>(
     side: &mut HostSide<'_, H, R>,
     controller: &mut Controller<D>,
@@ -24,6 +27,7 @@ pub fn turn_once<H: Serves, R: Wait, D: Device>(
     ensures agrees { Agrees (side_knows (H.machine side.new.host.now) (H.known (H.Server.own side.new.server)) (H.Server.given side.new.server) (IsWholeSide (H.machine side.new.host.now) (H.is_of side.new.host.now (H.Server.own side.new.server)) (H.known (H.Server.own side.new.server)) (H.Server.pending side.new.server) (H.Server.given side.new.server) (H.Server.has_room side.new.server)) (H.is_settled side.new.host.now side.new.server)) controller.new }
     ensures same { side.new.host.now ≡ side.old.host.now }
     ensures gave { TurnGave (H.machine side.old.host.now) (H.known (H.Server.own side.old.server)) (H.known (H.Server.own side.new.server)) (option_map (λ y. H.Given.told y) result.given) }
+    ensures went { (so : ℕ → List Reply) → IsSoFar (side_knows (H.machine side.old.host.now) (H.known (H.Server.own side.old.server)) (H.Server.given side.old.server) (IsWholeSide (H.machine side.old.host.now) (H.is_of side.old.host.now (H.Server.own side.old.server)) (H.known (H.Server.own side.old.server)) (H.Server.pending side.old.server) (H.Server.given side.old.server) (H.Server.has_room side.old.server)) (H.is_settled side.old.host.now side.old.server)) so controller.old.ends.items → TurnWent D.replies (H.machine side.old.host.now) (H.known (H.Server.own side.old.server)) (H.known (H.Server.own side.new.server)) controller.old.ends.items controller.new.ends.items controller.old.devices.items controller.new.devices.items so (λ now. IsSoFar (side_knows (H.machine side.new.host.now) (H.known (H.Server.own side.new.server)) (H.Server.given side.new.server) (IsWholeSide (H.machine side.new.host.now) (H.is_of side.new.host.now (H.Server.own side.new.server)) (H.known (H.Server.own side.new.server)) (H.Server.pending side.new.server) (H.Server.given side.new.server) (H.Server.has_room side.new.server)) (H.is_settled side.new.host.now side.new.server)) now controller.new.ends.items) (option_map (λ y. H.Given.told y) result.given) }
 {
     controller.turn(side)
 }

@@ -4,6 +4,7 @@ use Rattle.usb_machine.specs.History.{Machine}
 use Rattle.usb_machine.specs.Fresh.{Known}
 use Rattle.usb_machine.specs.Tokens.{IsWholeServer, unused}
 use Rattle.usb_serve.specs.Held.{HasLayout}
+use Rattle.usb_serve.proofs.SoFars.{so_opens}
 use Rattle.usb_side.proofs.Started.{begins}
 use Rattle.usb_side.proofs.beginning.begin.Goals as goal
 
@@ -19,6 +20,9 @@ returns-clause-agrees g c =
     (record { here = c.in_ok-parts.ensures.here.0; whole = whole; sound = g.met.H.Host.sound parts.host (g.H.Server.Token.own parts.server) c.in_ok-parts.ensures.here.0 })
     (subst (λ n. HasLayout c.args.layout n controller.ends.items) (sym (ap (λ l. length l) c.in_ok-controller.ensures.devices)) c.in_ok-controller.ensures.layout)
     c.in_ok-controller.ensures.empty
+
+pub returns-clause-so_far : goal.returns-clause-so_far
+returns-clause-so_far g c = so_opens _ c.in_ok-controller.controller.ends.items c.in_ok-controller.ensures.empty
 
 pub returns-clause-room : goal.returns-clause-room
 returns-clause-room g c = subst (λ n. n < 2 ^ 63) (sym c.in_ok-parts.ensures.server.1.given_are) (omega arith)
