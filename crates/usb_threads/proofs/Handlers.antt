@@ -5,6 +5,8 @@ use Rattle.usb_types.specs.declared.errno.Code.{Code}
 use Rattle.usb_types.specs.declared.errno.Code.TheVariants.{Zero, Fault}
 use Rattle.usb_types.specs.declared.urb.UrbId.{UrbId}
 use Rattle.usb_types.specs.declared.urb.Action.TheVariants as action
+use Rattle.usb_machine.specs.declared.entry.TheConstants.{SERVER}
+use Rattle.usb_machine.specs.declared.entry.Entry.{Entry}
 use Rattle.usb_machine.specs.declared.layout.Shape.{Shape}
 use Rattle.usb_machine.specs.declared.transfer.Transfer.{Transfer}
 use Rattle.usb_machine.specs.State.{is_zero}
@@ -19,14 +21,17 @@ use Rattle.usb_class.specs.Handlers.{action_by, Completes, Asks, Unasks}
 use Rattle.usb_class.specs.Handler.{window_by}
 use Rattle.usb_scene.specs.declared.scene.Scene.{Scene}
 use Rattle.usb_scene.specs.WellFormed.{IsWellFormed}
-use Rattle.usb_prepare.specs.Layout.{urb_count}
+use Rattle.usb_prepare.specs.Ends.{shape_at}
+use Rattle.usb_prepare.specs.Layout.{home, urb_count}
 use Rattle.usb_trace.specs.declared.rows.Outcome.TheVariants as outcome
 use Rattle.usb_trace.specs.Plan.{owner_of, machine_of, question_at, DriverQuestion}
-use Rattle.usb_trace.specs.Run.{Giveback, resent_as, may_again, handled_by}
+use Rattle.usb_trace.specs.Run.{Giveback, resent_as, may_again, submit_of, handled_by}
 use Rattle.usb_trace.specs.Handlers.{AreHandlersOf, Handles, asked_with, IsAskedAfter}
 use Rattle.usb_trace.proofs.Handling.{acts_as}
+use Rattle.usb_trace.proofs.Homes.{home_shape}
 use Rattle.usb_line.specs.Back.{CanPoseAny}
 use Rattle.usb_line.proofs.Posing.{can_pose_any}
+use Rattle.usb_threads.specs.Serving.{completed_by}
 use Rattle.usb_threads.specs.Words.{outcome_in_run, question_in_run}
 
 -- what they did
@@ -37,6 +42,11 @@ handles_in_run old new u status t _ _ _ (Did.again from len a _ done) = Handles.
 handles_in_run old new u status t _ _ _ (Did.silent mid _ done by) = Handles.silent mid new done by
 handles_in_run old new u status t _ _ _ (Did.asked mid _ v q done by) = Handles.asked mid new v q done by
 handles_in_run old new u status t _ _ _ (Did.refused mid asking _ v q errno done by un) = Handles.refused mid asking new v q errno done by un
+
+-- a submit has the same entries
+same_submit : (fault : Option Errno) (u : ℕ) (t : Transfer) (a : Code) → submits fault u t a ≡ submit_of fault SERVER u t a
+same_submit (Some errno) u t a = refl
+same_submit None u t a = refl
 
 -- an action that goes again has the window of what is sent again
 window_again : (o : Option Owner) (may : Bool) (status : Code) (t : Transfer) (from len : ℕ) → action.Again from len ≡ action_by o may status t → windowed from len t ≡ resent_as o status t
@@ -56,19 +66,25 @@ module _ (s : Scene) (rounds : List Giveback) (old : Handlers) (stands : AreHand
     asked_so v q a is =
         let can : CanPoseAny s u (Some (asked_with v q)) = subst (CanPoseAny s u) is (can_pose_any s good u) in
         ap (λ (shape : Option Shape). rests_as u t ∷ submits (fault_at shape q) v.0 q a) can.home
-        ∙ ap (λ (question : Option DriverQuestion). handled_by s u t (resent_as (owner_of s u) status t) question (outcome.Asked a)) (sym is)
+        ∙ (ap (λ (l : List Entry). rests_as u t ∷ l) (same_submit (fault_at (Some (shape_at s (home s v.0))) q) v.0 q a)
+        ∙ ap (λ (question : Option DriverQuestion). handled_by s u t (resent_as (owner_of s u) status t) question (outcome.Asked a)) (sym is))
 
-    again_so : (again : Transfer) (a : Code) → again ≡ resent_as (owner_of s u) status t → fault_at (shape_of (machine_of s) u) again ≡ None
-        → done_by (machine_of s) u t again None (served.Again a) ≡ handled_by s u t (resent_as (owner_of s u) status t) (question_at s u) (outcome.Again a)
-    again_so again a is takes = ap (λ (fault : Option Errno). submits fault u again a ++ (cond (is_zero a) [] (rests_as u again ∷ []))) takes
-        ∙ ap (λ (r : Transfer). handled_by s u t r (question_at s u) (outcome.Again a)) is
+    shape_here : shape_of (machine_of s) u ≡ Some (shape_at s (home s u))
+    shape_here = home_shape s good u near
 
-    -- and so are the entries, where the endpoint takes what goes again, and the question is the scene's
+    again_so : (again : Transfer) (a : Code) → again ≡ resent_as (owner_of s u) status t
+        → done_by (machine_of s) u t again None (served.Again a) ≡ completed_by s u t (resent_as (owner_of s u) status t) (question_at s u) (outcome.Again a)
+    again_so again a is =
+        ap (λ (shape : Option Shape). submits (fault_at shape again) u again a ++ cond (is_zero a) [] (rests_as u again ∷ [])) shape_here
+        ∙ (ap (λ (l : List Entry). l ++ cond (is_zero a) [] (rests_as u again ∷ [])) (same_submit (fault_at (Some (shape_at s (home s u))) again) u again a)
+        ∙ ap (λ (r : Transfer). completed_by s u t r (question_at s u) (outcome.Again a)) is)
+
+    -- and so are the entries, where the question is the scene's
     pub entries_in_run : (new : Handlers) (again : Transfer) (asking : Option (UrbId × Transfer)) (o : ServedOutcome) → Did Completes Asks Unasks old (record { 0 = u }) status t asking again o new
-        → ((a : Code) → o ≡ served.Again a → fault_at (shape_of (machine_of s) u) again ≡ None) → IsAskedAfter s u (question_in_run asking)
-        → done_by (machine_of s) u t again asking o ≡ handled_by s u t (resent_as (owner_of s u) status t) (question_at s u) (outcome_in_run o)
-    entries_in_run new _ _ _ (Did.rested _ done) takes asks = refl
-    entries_in_run new _ _ _ (Did.again from len a _ done) takes asks = again_so (windowed from len t) a (again_in_run new (windowed from len t) None a (Did.again from len a new done)) (takes a refl)
-    entries_in_run new _ _ _ (Did.silent mid _ done by) takes asks = refl
-    entries_in_run new _ _ _ (Did.asked mid _ v q done by) takes asks = asked_so v q Zero asks
-    entries_in_run new _ _ _ (Did.refused mid asking _ v q errno done by un) takes asks = asked_so v q (Fault errno) asks
+        → IsAskedAfter s u (question_in_run asking)
+        → done_by (machine_of s) u t again asking o ≡ completed_by s u t (resent_as (owner_of s u) status t) (question_at s u) (outcome_in_run o)
+    entries_in_run new _ _ _ (Did.rested _ done) asks = refl
+    entries_in_run new _ _ _ (Did.again from len a _ done) asks = again_so (windowed from len t) a (again_in_run new (windowed from len t) None a (Did.again from len a new done))
+    entries_in_run new _ _ _ (Did.silent mid _ done by) asks = refl
+    entries_in_run new _ _ _ (Did.asked mid _ v q done by) asks = asked_so v q Zero asks
+    entries_in_run new _ _ _ (Did.refused mid asking _ v q errno done by un) asks = asked_so v q (Fault errno) asks

@@ -14,3 +14,4 @@ pub mod Together
 pub mod Back
 pub mod Going
 pub mod Handlers
+pub mod Given
