@@ -15,15 +15,12 @@ use Rattle.usb_line.specs.Opened.{AreNewEnds}
 use Rattle.usb_line.proofs.Opening.{shows_start}
 use Rattle.usb_line.proofs.prepare.started.Goals as goal
 
-pub overflow_cast-arg : goal.overflow_cast-arg
-overflow_cast-arg c =
+pub overflow_cast-homes : goal.overflow_cast-homes
+overflow_cast-homes c =
     let s = c.args.scene.now in
     let few = few_urbs s c.requires.good in
     let long : length c.items-homes.result.now ≡ urb_count s = ap (λ (l : List (Option ℕ)). length l) (c.items-homes.ensures ∙ ap (λ (l : Layout). l.homes) c.requires.prepared.layout) in
     omega arith
-
-pub owners_in-owners-requires-clause-count : goal.owners_in-owners-requires-clause-count
-owners_in-owners-requires-clause-count c = ap (λ (l : List (Option ℕ)). length l) (c.items-homes.ensures ∙ ap (λ (l : Layout). l.homes) c.requires.prepared.layout)
 
 pub new_cores-requires : goal.new_cores-requires
 new_cores-requires c =

@@ -7,8 +7,8 @@ use Rattle.usb_trace.specs.Plan.{owner_of}
 use Rattle.usb_line.proofs.Opening.{urbs_longer}
 use Rattle.usb_line.proofs.prepare.urb_rows.Goals as goal
 
-pub bounds_owners : goal.bounds_owners
-bounds_owners c =
+pub bounds-owners-u : goal.bounds-owners-u
+bounds-owners-u c =
     let s = c.args.scene.now in
     let all : length c.args.owners.now ≡ urb_count s = ap (λ (l : List (Option Owner)). length l) c.requires.owned ∙ length-map_below (owner_of s) (urb_count s) in
     let homes : length c.args.homes.now ≡ urb_count s = ap (λ (l : List (Option ℕ)). length l) c.requires.homes in
@@ -16,4 +16,4 @@ bounds_owners c =
 
 pub loop-u-preserved : goal.loop-u-preserved
 loop-u-preserved c = urbs_longer c.args.scene.now c.loop-u.u c.items.result.now c.args.homes.now c.args.owners.now c.loop-u.urbs.items c.push.new.self.items c.urb_row.result c.loop-u-test.true c.items.ensures c.requires.homes c.requires.owned
-    c.urb_row.ensures c.loop-u.invariant c.in_ok-push.ensures.items
+    (c.urb_row.ensures ∙ (λ j. record { home = or_zero (get_or {A = Option ℕ} c.args.homes.now c.loop-u.u None); owner = get_or {A = Option Owner} c.args.owners.now c.loop-u.u None; again = c.again_said.ensures j; transfer = None })) c.loop-u.invariant c.in_ok-push.ensures.items

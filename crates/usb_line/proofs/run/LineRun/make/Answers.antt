@@ -5,11 +5,8 @@ use Rattle.usb_line.proofs.Calling.{is_there, may_make, may_hub}
 use Rattle.usb_line.proofs.Submitted.{few_bytes}
 use Rattle.usb_line.proofs.run.LineRun.make.Goals as goal
 
-pub sent_by_call-t-requires-clause-good : goal.sent_by_call-t-requires-clause-good
-sent_by_call-t-requires-clause-good c = c.requires.can.may.good
-
-pub sent_by_call-t-requires-clause-bytes : goal.sent_by_call-t-requires-clause-bytes
-sent_by_call-t-requires-clause-bytes c =
+pub sent_by_call-requires-clause-bytes : goal.sent_by_call-requires-clause-bytes
+sent_by_call-requires-clause-bytes c =
     let s = c.args.scene.now in let u = c.in-Submit.urb in
     few_bytes s c.requires.can.far c.args.thread c.args.call.now c.args.self.now c.pass_of_thread-pass.result u
     (may_make s c.requires.can.far c.args.thread c.args.call.now c.args.self.now c.pass_of_thread-pass.result (host_call.Submit u) c.requires.can.may (c.in-Submit.ensures c.args.scene.now c.requires.bound) c.pass_of_thread-pass.ensures)
@@ -24,7 +21,7 @@ submit-requires c =
       thread = c.args.thread;
       call = c.args.call.now;
       may = may;
-      is = c.in_ok-t.ensures;
+      is = c.in_ok-t-in-Submit.ensures;
     }
 
 pub take_down-requires : goal.take_down-requires
@@ -44,12 +41,6 @@ bring_up-requires c = record {
   call = c.args.call.now;
   may = may_hub c.args.scene.now c.requires.can.far c.args.thread c.args.call.now c.args.self.now host_call.Up c.requires.can.may (c.in-Up.ensures c.args.scene.now c.requires.bound) refl;
 }
-
-pub returns-in-Submit : goal.returns-in-Submit
-returns-in-Submit c f may =
-    let s = c.args.scene.now in let u = c.in-Submit.urb in
-    c.submit.ensures s f c.args.thread c.args.call.now
-    (may_make s f c.args.thread c.args.call.now c.args.self.now c.pass_of_thread-pass.result (host_call.Submit u) may (c.in-Submit.ensures c.args.scene.now c.requires.bound) c.pass_of_thread-pass.ensures) c.in_ok-t.ensures
 
 pub returns-in-Serve : goal.returns-in-Serve
 returns-in-Serve c = IfOk-weaker c.serve_all.result _ _ (λ told is f may. is c.args.scene.now f c.args.thread c.args.call.now c.pass_of_thread-pass.result
