@@ -25,17 +25,17 @@ use Rattle.usb_threads.proofs.Senders.{aside_sends, given_sends, handler_sends}
 
 -- an element of two lists stands in the first of them, or behind it
 abbrev IsWithin : {X : Type 0} → List X → List X → X → List X → List X → Type 0
-IsWithin {X} xs ys x as bs = ((zs : List X) × (as ≡ xs ++ x ∷ zs)) ⊎ ((zs : List X) × (xs ≡ as ++ zs) × (zs ++ x ∷ ys ≡ bs))
+IsWithin {X} xs ys x ls rs = ((zs : List X) × (ls ≡ xs ++ x ∷ zs)) ⊎ ((zs : List X) × (xs ≡ ls ++ zs) × (zs ++ x ∷ ys ≡ rs))
 
-within : {X : Type 0} (xs ys : List X) (x : X) (as bs : List X) → xs ++ x ∷ ys ≡ as ++ bs → IsWithin xs ys x as bs
-within xs ys x [] bs is = inr (xs, refl, is)
-within [] ys x (a ∷ as) bs is = let first : a ≡ x = cc (is) in inl (as, λ i. first i ∷ as)
-within {X} (z ∷ xs) ys x (a ∷ as) bs is = go (within xs ys x as bs (cc (is)))
+within : {X : Type 0} (xs ys : List X) (x : X) (ls rs : List X) → xs ++ x ∷ ys ≡ ls ++ rs → IsWithin xs ys x ls rs
+within xs ys x [] rs is = inr (xs, refl, is)
+within [] ys x (l ∷ ls) rs is = let first : l ≡ x = cc (is) in inl (ls, λ i. first i ∷ ls)
+within {X} (z ∷ xs) ys x (l ∷ ls) rs is = go (within xs ys x ls rs (cc (is)))
   where
-    first : z ≡ a
+    first : z ≡ l
     first = cc (is)
 
-    go : IsWithin xs ys x as bs → IsWithin (z ∷ xs) ys x (a ∷ as) bs
+    go : IsWithin xs ys x ls rs → IsWithin (z ∷ xs) ys x (l ∷ ls) rs
     go (inl k) = inl (k.0, λ i. sym first i ∷ k.1 i)
     go (inr k) = inr (k.0, (λ i. first i ∷ k.1 i), k.2)
 
