@@ -1,12 +1,12 @@
 -- All that is sent in a closed history is apt: what a handler sends again was sent before.
-use Rattle.std.proofs.Common.{ℕ, ◌≡◌, ◌≢◌, ◌+◌, ◌<◌, ◌⊎◌, inl, inr, Bool, true, false, not, cond, List, [], ◌∷◌, ◌++◌, length, map, refl, sym, ap, ◌∙◌, subst, arith, append_assoc, append-nil, eq-eqb}
+use Rattle.std.proofs.Common.{ℕ, ◌≡◌, ◌≢◌, ◌<◌, ◌⊎◌, inl, inr, Bool, true, false, not, cond, List, [], ◌∷◌, ◌++◌, length, map, refl, sym, ap, ◌∙◌, subst, arith, append_assoc, append-nil, eq-eqb}
 use Rattle.std.specs.List.{flat_map}
 use Rattle.std.proofs.lemmas.List.Elements.{filter-append}
 use mathlib.Core.Logic.{dite}
 use native.Mathlib.Decide.{ℕ_discrete}
 use Rattle.usb_machine.specs.declared.entry.TheConstants.{SERVER}
 use Rattle.usb_machine.specs.declared.entry.Entry.{Entry}
-use Rattle.usb_machine.specs.History.{Machine, Episode, episodes_of, episodes_after}
+use Rattle.usb_machine.specs.History.{Episode, episodes_of, episodes_after}
 use Rattle.usb_machine.specs.Parts.{part_of}
 use Rattle.usb_machine.specs.Legal.{IsLegal, empty, longer}
 use Rattle.usb_scene.specs.declared.scene.Scene.{Scene}
@@ -25,17 +25,17 @@ use Rattle.usb_threads.proofs.Senders.{aside_sends, given_sends, completion_send
 
 -- an element of two lists stands in the first of them, or behind it
 abbrev IsWithin : {X : Type 0} → List X → List X → X → List X → List X → Type 0
-IsWithin {X} xs ys x as bs = ((zs : List X) × (as ≡ xs ++ x ∷ zs)) ⊎ ((zs : List X) × (xs ≡ as ++ zs) × (zs ++ x ∷ ys ≡ bs))
+IsWithin {X} xs ys x ls rs = ((zs : List X) × (ls ≡ xs ++ x ∷ zs)) ⊎ ((zs : List X) × (xs ≡ ls ++ zs) × (zs ++ x ∷ ys ≡ rs))
 
-within : {X : Type 0} (xs ys : List X) (x : X) (as bs : List X) → xs ++ x ∷ ys ≡ as ++ bs → IsWithin xs ys x as bs
-within xs ys x [] bs is = inr (xs, refl, is)
-within [] ys x (a ∷ as) bs is = let first : a ≡ x = cc (is) in inl (as, λ i. first i ∷ as)
-within {X} (z ∷ xs) ys x (a ∷ as) bs is = go (within xs ys x as bs (cc (is)))
+within : {X : Type 0} (xs ys : List X) (x : X) (ls rs : List X) → xs ++ x ∷ ys ≡ ls ++ rs → IsWithin xs ys x ls rs
+within xs ys x [] rs is = inr (xs, refl, is)
+within [] ys x (l ∷ ls) rs is = let first : l ≡ x = cc (is) in inl (ls, λ i. first i ∷ ls)
+within {X} (z ∷ xs) ys x (l ∷ ls) rs is = go (within xs ys x ls rs (cc (is)))
   where
-    first : z ≡ a
+    first : z ≡ l
     first = cc (is)
 
-    go : IsWithin xs ys x as bs → IsWithin (z ∷ xs) ys x (a ∷ as) bs
+    go : IsWithin xs ys x ls rs → IsWithin (z ∷ xs) ys x (l ∷ ls) rs
     go (inl k) = inl (k.0, λ i. sym first i ∷ k.1 i)
     go (inr k) = inr (k.0, (λ i. first i ∷ k.1 i), k.2)
 
@@ -48,6 +48,7 @@ module _ (s : Scene) (good : IsWellFormed s) where
     abbrev others : List Entry
     others = flat_map (served_entries s) rounds
 
+    -- where there is an episode, it is that of the first giveback
     first_sent : (es : List Episode) → es ++ more ≡ map episode_of (r ∷ rounds) → EndEach s es → 0 < length es → IsApt s r.urb r.sent
     first_sent [] e each some = absurd (omega arith)
     first_sent (d ∷ es) e each some = let same : d ≡ episode_of r = cc (e) in subst (λ (d : Episode). MayHave s d.urb d.transfer) same each.0
@@ -76,6 +77,7 @@ module _ (s : Scene) (good : IsWellFormed s) where
         let whole = ap gives_in is in let parts = gives-append (served_entries s r) ws in let one = one_give s r in
         next es (cc (e)) each.1 (omega arith) there
 
+  -- so it sends what its URB may have
   walk : (rounds : List Giveback) (es more : List Episode) (xs ys : List Entry) (x : Entry) → es ++ more ≡ map episode_of rounds → EndEach s es → gives_in xs ≡ length es
       → xs ++ x ∷ ys ≡ flat_map (served_entries s) rounds → SendsApt s x.event x.carried
   walk [] es more xs ys x e each n is = absurd (no_middle xs x ys (sym is))
@@ -106,12 +108,14 @@ module _ (s : Scene) (good : IsWellFormed s) where
       abbrev new : List Entry
       new = of_givebacks (part_of more SERVER)
 
+      -- what the server had made, and as many Gives in it as episodes were over
       server_part : x.pass ≡ SERVER → part_of h SERVER ≡ part_of k SERVER ++ x ∷ part_of more SERVER
       server_part at = subst (λ q. part_of h q ≡ part_of k q ++ x ∷ part_of more q) at part_is
 
       gives_before : gives_in old ≡ length (episodes_of k)
       gives_before = gives_kept (part_of k SERVER) ∙ (servers_gives (machine_of s) k before ∙ sym (as_many_episodes [] k))
 
+      -- an entry of the server stands aside, or is one of a giveback
       own : x.pass ≡ SERVER → (kept : Bool) → not (is_aside x.event x.answer) ≡ kept → SendsApt s x.event x.carried
       own at false aside = aside_sends s x.event x.answer x.carried aside
       own at true kept = walk rounds (episodes_of k) (episodes_after k (x ∷ more)) old new x
@@ -122,6 +126,7 @@ module _ (s : Scene) (good : IsWellFormed s) where
       next_apt : SendsApt s x.event x.carried
       next_apt = dite (ℕ_discrete x.pass SERVER) (λ at. own at (not (is_aside x.event x.answer)) refl) other
 
+    -- one entry after another
     beginning : (k : List Entry) → IsLegal (machine_of s) k → (more : List Entry) → h ≡ k ++ more → SendEach s k
     beginning _ empty more is = tt
     beginning _ (longer k x before follows) more is =

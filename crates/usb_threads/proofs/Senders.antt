@@ -90,9 +90,12 @@ module _ (s : Scene) where
   killed_send f (a ∷ marks) each = each a
 
   flush_sends : (p : ℕ) (us : List ℕ) (marks : List Code) (rests : List (Option ℕ)) → SendEach s (map (λ u. plain_entry p (Flag record { 0 = u } flag.Down)) us ++ marks_of p Shutdown us marks ++ claims_of p us rests)
-  flush_sends p us marks rests = let flags = map (λ u. plain_entry p (Flag record { 0 = u } flag.Down)) us in
-      SendEach-append s flags (marks_of p Shutdown us marks ++ claims_of p us rests) (stills_send flags (flags_still p flag.Down us))
-      (SendEach-append s (marks_of p Shutdown us marks) (claims_of p us rests) (stills_send (marks_of p Shutdown us marks) (marks_still p Shutdown us marks)) (claims_send p us rests))
+  flush_sends p us marks rests =
+      let flags = map (λ u. plain_entry p (Flag record { 0 = u } flag.Down)) us in
+      let marked = marks_of p Shutdown us marks in
+      SendEach-append s (flags ++ marked) (claims_of p us rests)
+      (SendEach-append s flags marked (stills_send flags (flags_still p flag.Down us)) (stills_send marked (marks_still p Shutdown us marks)))
+      (claims_send p us rests)
 
   module _ (good : IsWellFormed s) where
     -- the reads of the drivers
