@@ -8,17 +8,13 @@ pub mod Taken
 pub mod Moving
 pub mod Unlinking
 pub mod Returned
-pub mod Questions
-pub mod Controls
 pub mod Asked
+pub mod Goes
 pub mod Cores
 pub mod Falling
-pub mod Chained
-pub mod Devices
 pub mod Pendings
 pub mod Stepping
 pub mod Taking
-pub mod Homes
 pub mod Resending
 pub mod Givebacks
 pub mod Parts
@@ -66,7 +62,6 @@ pub mod Ending
 pub mod Telling
 pub mod Submitting
 pub mod Submitted
-pub mod Apt
 pub mod Reading
 pub mod DriverQuestions
 pub mod GivingBack

@@ -26,7 +26,8 @@ use Rattle.usb_prepare.specs.Prepared.{bindings_of, ids_of}
 use Rattle.usb_trace.specs.Plan.{machine_of, owner_of, again_in, origin_by, origin_of}
 use Rattle.usb_prepare.specs.Below.{below}
 use Rattle.usb_line.specs.Line.{at_start}
-use Rattle.usb_line.specs.Shows.{ShowsUrb, ShowsEnd, ShowsDevice, Shows, asked_now}
+use Rattle.usb_line.specs.Shows.{ShowsUrb, ShowsEnd, Shows, asked_now}
+use Rattle.usb_trace.specs.Devices.{ShowsDevice}
 use Rattle.usb_trace.specs.Handlers.{ShowsCores}
 use Rattle.usb_line.specs.Opened.{IsNewEnd, AreNewEnds, origin_in, IsNewCore, AreNewCores, new_urb}
 use Rattle.usb_trace.specs.Due.{heard_before}
@@ -39,7 +40,7 @@ use Rattle.usb_line.proofs.Numbered.{number_is}
 use Rattle.usb_prepare.proofs.Below.{map_below-suc, length-map_below, is-map_below}
 use Rattle.usb_prepare.proofs.Facts.{few_ends, unhalted_before}
 use Rattle.usb_line.proofs.Asked.{asked_idle}
-use Rattle.usb_line.proofs.Devices.{ruled_at, packets_at}
+use Rattle.usb_trace.proofs.Devices.{ruled_at, packets_at}
 
 -- what stands in a list with one item more
 in_longer : {X : Type 0} (xs : List X) (x z : X) (i : ℕ) → slice_get (xs ++ x ∷ []) i ≡ Some z → (slice_get xs i ≡ Some z) ⊎ ((i ≡ length xs) × (z ≡ x))
@@ -116,7 +117,7 @@ module _ (s : Scene) (good : IsWellFormed s) (run : LineRun) (stands : Stands ru
         acked = new.none;
       }
 
-  device_shown : (d : ℕ) (x : Scripted) → slice_get run.devices.items d ≡ Some x → ShowsDevice s at_start d x
+  device_shown : (d : ℕ) (x : Scripted) → slice_get run.devices.items d ≡ Some x → ShowsDevice s (asked_now s at_start) d x
   device_shown d x at =
       let near = slice_get_within run.devices.items d x at in
       let count = ready.count in
@@ -127,7 +128,7 @@ module _ (s : Scene) (good : IsWellFormed s) (run : LineRun) (stands : Stands ru
       unasked : (e : ℕ) → asked_now s at_start e ≡ []
       unasked e = asked_idle s at_start e refl
 
-      go : (device : SceneDevice) → slice_get s.devices d ≡ Some device → (b : Bool) → is_raw device.script.kind ≡ b → ShowsDevice s at_start d x
+      go : (device : SceneDevice) → slice_get s.devices d ≡ Some device → (b : Bool) → is_raw device.script.kind ≡ b → ShowsDevice s (asked_now s at_start) d x
       go device there true raw =
           let new = ready.each d device x there at in
           let known : is_raw_at s d ≡ true = ap raw_in there ∙ raw in record {

@@ -27,7 +27,7 @@ use Rattle.usb_line.specs.Line.{Progress, replies_had}
 use Rattle.usb_line.specs.Shows.{IsMoving, HoldsTransfer, Shows}
 use Rattle.usb_line.specs.Back.{CanAsk, CanGiveBack}
 use Rattle.usb_class.specs.Handlers.{CanNote}
-use Rattle.usb_line.proofs.Homes.{home_shape}
+use Rattle.usb_trace.proofs.Homes.{home_shape}
 use Rattle.usb_prepare.proofs.Facts.{home_near}
 use Rattle.usb_device.proofs.Lookups.{each_set}
 use Rattle.usb_line.proofs.Lookups.{set_read}

@@ -32,10 +32,10 @@ use Rattle.usb_line.specs.Reads.{read_below, MayRead}
 use Rattle.usb_line.specs.Sent.{MaySend, Sent}
 use Rattle.usb_trace.proofs.Entries.{AreAbout, other_state}
 use Rattle.usb_line.proofs.Submits.{submit_about}
-use Rattle.usb_line.proofs.Homes.{has_home, home_shape}
+use Rattle.usb_trace.proofs.Homes.{has_home, home_shape}
 use Rattle.usb_line.proofs.Killing.{plain_urbs}
 use Rattle.usb_trace.proofs.Owners.{owner_size}
-use Rattle.usb_line.proofs.Apt.{bare_apt}
+use Rattle.usb_trace.proofs.Apt.{bare_apt}
 
 -- the entries of a read are about its URB
 pub read_about : (s : Scene) (u : ℕ) → AreAbout u (read_entries s u)

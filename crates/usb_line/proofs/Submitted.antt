@@ -28,9 +28,9 @@ use Rattle.usb_line.specs.Shows.{Shows}
 use Rattle.usb_line.specs.Calls.{MayMake, Made}
 use Rattle.usb_line.specs.Sent.{said_of, sent_by, MaySend, Sent}
 use Rattle.usb_trace.proofs.Stills.{AreStill}
-use Rattle.usb_line.specs.Shows.{IsApt}
+use Rattle.usb_trace.specs.Devices.{IsApt}
 use Rattle.usb_line.specs.declared.submit.Said.{Said}
-use Rattle.usb_line.proofs.Homes.{has_home, home_takes, fresh_long, fresh_window}
+use Rattle.usb_trace.proofs.Homes.{has_home, home_takes, fresh_long, fresh_window}
 use Rattle.usb_line.proofs.OnInterface.{fresh_apt}
 use Rattle.usb_prepare.proofs.Facts.{home_near}
 use Rattle.usb_line.proofs.Showing.{shows_called}

@@ -27,3 +27,9 @@ pub mod Resent
 pub mod CoresSeen
 pub mod Handling
 pub mod Claimed
+pub mod Questions
+pub mod Controls
+pub mod Chained
+pub mod Homes
+pub mod Apt
+pub mod Devices
