@@ -7,7 +7,8 @@ use Rattle.usb_xfer.specs.Replies.{Reply}
 use Rattle.usb_scene.specs.declared.scene.Scene.{Scene}
 use Rattle.usb_trace.specs.Plan.{machine_of}
 use Rattle.usb_trace.specs.Run.{asked_of}
-use Rattle.usb_line.specs.Line.{Progress, asks, asked_so_far}
+use Rattle.usb_line.specs.Line.{Progress, asked_so_far}
+use Rattle.usb_trace.specs.Due.{asks}
 use Rattle.usb_line.specs.Shows.{first_sent, asked_by, asked_now}
 
 module _ (s : Scene) (f : Progress) (e : ℕ) where

@@ -10,11 +10,12 @@ use Rattle.usb_machine.specs.Plain.{Stands}
 use Rattle.usb_line.specs.declared.run.UrbRow.{UrbRow}
 use Rattle.usb_trace.specs.Plan.{machine_of}
 use Rattle.usb_line.specs.Line.{Progress, woken}
-use Rattle.usb_line.specs.Shows.{HoldsTransfer, ShowsEnd, ShowsDevices, Shows}
+use Rattle.usb_line.specs.Shows.{HoldsTransfer, ShowsEnd, Shows, asked_now}
+use Rattle.usb_trace.specs.Devices.{ShowsDevices}
 use Rattle.usb_trace.specs.Handlers.{ShowsCores}
 use Rattle.usb_line.specs.Awake.{awake}
 use Rattle.usb_line.proofs.Asked.{asked_same}
-use Rattle.usb_line.proofs.Devices.{devices_same}
+use Rattle.usb_trace.proofs.Devices.{devices_same}
 
 mapped : {X : Type 0} (f : X → X) (xs : List X) (i : ℕ) (d : X) → i < length xs
     → slice_set (map f (take i xs) ++ drop i xs) i (f (slice_index_or (map f (take i xs) ++ drop i xs) i d)) ≡ map f (take (suc i) xs) ++ drop (suc i) xs
@@ -44,8 +45,8 @@ shows_woken s f run after old plain ends urbs devices cores given down = record 
   stands = subst (λ plain. Stands plain (machine_of s) f.history) (sym plain) old.stands;
   calm = old.calm;
   linked = old.linked;
-  devices = subst (λ l. ShowsDevices s (woken f) l.items) (sym devices)
-      (devices_same s f (woken f) run.devices.items (λ e. asked_same s f (woken f) e refl refl (old.unmoved e) (λ u others first. (others, first, refl))) old.devices);
+  devices = subst (λ l. ShowsDevices s (asked_now s (woken f)) l.items) (sym devices)
+      (devices_same s (asked_now s f) (asked_now s (woken f)) run.devices.items (λ e. asked_same s f (woken f) e refl refl (old.unmoved e) (λ u others first. (others, first, refl))) old.devices);
   few_ends = old.few_ends;
   all_ends = ap length ends ∙ (length-map run.ends.items awake ∙ old.all_ends);
   each_end = λ e end at.

@@ -36,7 +36,8 @@ use Rattle.usb_trace.specs.Run.{Giveback, moved_in, resent, is_accepted, times_b
 use Rattle.usb_class.specs.Handlers.{action_by}
 use Rattle.usb_line.specs.Line.{Progress, replies_had, given_back}
 use Rattle.usb_trace.specs.GivebackRow.{giveback_row, acked_at, sent_bytes, IsReceived}
-use Rattle.usb_line.specs.Shows.{IsApt, HoldsTransfer, ShowsUrb, ShowsEnd, Shows, ShowsDevices, asked_now}
+use Rattle.usb_line.specs.Shows.{HoldsTransfer, ShowsUrb, ShowsEnd, Shows, asked_now}
+use Rattle.usb_trace.specs.Devices.{IsApt, ShowsDevices}
 use Rattle.usb_trace.specs.Handlers.{ShowsCores}
 use Rattle.usb_trace.specs.GivebackRow.{Adds}
 use Rattle.usb_line.specs.Back.{is_again, left_by, row_back, CanPoseAny, CanGive}
@@ -301,7 +302,7 @@ module _ (s : Scene) (f : Progress) (r : Giveback) where
   }
 
   -- so the object shows the progress with the giveback
-  pub shows_back : CanPoseAny s r.urb (question_at s r.urb) → (run new : LineRun) → Shows s f run → Stands new.plain (machine_of s) k.history → ShowsDevices s k new.devices.items
+  pub shows_back : CanPoseAny s r.urb (question_at s r.urb) → (run new : LineRun) → Shows s f run → Stands new.plain (machine_of s) k.history → ShowsDevices s (asked_now s k) new.devices.items
       → length new.urbs.items ≡ length run.urbs.items → ((u : ℕ) (row : UrbRow) → slice_get new.urbs.items u ≡ Some row → ShowsUrb s k u row)
       → (end : EndRow) → new.ends.items ≡ slice_set run.ends.items e end → ShowsEnd s k e end
       → ShowsCores s k.rounds new.cores.items → new.given.items ≡ run.given.items ++ giveback_row s r ∷ [] → new.down ≡ run.down → Shows s k new

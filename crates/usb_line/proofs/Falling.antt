@@ -46,7 +46,8 @@ use Rattle.usb_line.specs.declared.run.UrbRow.{UrbRow}
 use Rattle.usb_line.specs.declared.run.LineRun.{LineRun}
 use Rattle.usb_trace.specs.Plan.{owner_of}
 use Rattle.usb_machine.specs.Completion.{after_window}
-use Rattle.usb_line.specs.Shows.{IsApt, rank, held, turns_left}
+use Rattle.usb_line.specs.Shows.{rank, held, turns_left}
+use Rattle.usb_trace.specs.Devices.{IsApt}
 use Rattle.usb_line.specs.Back.{is_again, left_by, row_back}
 use Rattle.usb_trace.proofs.Owners.{owner_end}
 

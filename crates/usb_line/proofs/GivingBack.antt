@@ -9,7 +9,6 @@ use Rattle.usb_machine.specs.declared.plain.Plain.{Plain}
 use Rattle.usb_machine.specs.Plain.{Stands, urbs_of}
 use Rattle.usb_trace.specs.declared.rows.GivebackRow.{GivebackRow}
 use Rattle.usb_trace.specs.declared.rows.Outcome.{Outcome}
-use Rattle.usb_trace.specs.declared.rows.Outcome.TheVariants as outcome
 use Rattle.usb_line.specs.declared.run.UrbRow.{UrbRow}
 use Rattle.usb_line.specs.declared.run.LineRun.{LineRun}
 use Rattle.usb_trace.specs.Plan.{machine_of, question_at}

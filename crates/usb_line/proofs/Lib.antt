@@ -8,13 +8,10 @@ pub mod Taken
 pub mod Moving
 pub mod Unlinking
 pub mod Returned
-pub mod Questions
-pub mod Controls
 pub mod Asked
+pub mod Goes
 pub mod Cores
 pub mod Falling
-pub mod Chained
-pub mod Devices
 pub mod Pendings
 pub mod Stepping
 pub mod Taking
@@ -64,7 +61,6 @@ pub mod Ending
 pub mod Telling
 pub mod Submitting
 pub mod Submitted
-pub mod Apt
 pub mod Reading
 pub mod DriverQuestions
 pub mod GivingBack

@@ -27,11 +27,12 @@ use Rattle.usb_line.specs.declared.run.LineRun.{LineRun}
 use Rattle.usb_prepare.specs.Ends.{shape_at, ends_of}
 use Rattle.usb_prepare.specs.Layout.{home}
 use Rattle.usb_trace.specs.Plan.{machine_of, owner_of}
-use Rattle.usb_trace.specs.Due.{next_due}
+use Rattle.usb_trace.specs.Due.{next_due, asks}
 use Rattle.usb_trace.specs.Run.{Giveback, is_first, asked_of, resent}
-use Rattle.usb_line.specs.Line.{Progress, asks, asked_so_far, marked_of, replies_had, had_after, GoesTo, IsServed, round_of, given_back, waits, over, stops}
+use Rattle.usb_line.specs.Line.{Progress, asked_so_far, marked_of, replies_had, had_after, GoesTo, IsServed, round_of, given_back, waits, over, stops}
 use Rattle.usb_machine.specs.Completion.{after_window}
-use Rattle.usb_line.specs.Shows.{HoldsTransfer, ShowsUrb, ShowsEnd, ShowsDevices, asked_now, Shows, turns_left}
+use Rattle.usb_line.specs.Shows.{HoldsTransfer, ShowsUrb, ShowsEnd, asked_now, Shows, turns_left}
+use Rattle.usb_trace.specs.Devices.{ShowsDevices}
 use Rattle.usb_trace.specs.Handlers.{ShowsCores}
 use Rattle.usb_line.specs.Back.{MayGive, GaveBack}
 use Rattle.usb_line.specs.Turned.{code_of, SameElse, TakesOut, MovedOn, FallsAsleep, FirstAwake, EndsAt, PassesBy}
@@ -39,15 +40,15 @@ use Rattle.usb_line.proofs.MayFollow.{once}
 use Rattle.usb_line.proofs.Marked.{first_unmarked}
 use Rattle.usb_prepare.proofs.Facts.{home_near}
 use Rattle.usb_trace.proofs.Dues.{length-due}
-use Rattle.usb_line.proofs.Questions.{control_moved}
+use Rattle.usb_trace.proofs.Questions.{control_moved}
 use Rattle.usb_line.proofs.Asked.{asked_first, asked_same}
 use Rattle.usb_line.proofs.Turns.{outcome_gated, clear_mark}
 use Rattle.usb_line.proofs.Backs.{asked_taken, asked_others}
 use Rattle.usb_device.proofs.Lookups.{each_set}
 use Rattle.usb_line.proofs.Lookups.{set_read, set_twice}
 use Rattle.usb_line.proofs.Pendings.{IsHeld, held_transfer}
-use Rattle.usb_line.proofs.Chained.{goes}
-use Rattle.usb_line.proofs.Devices.{replies_due, devices_asked}
+use Rattle.usb_line.proofs.Goes.{goes}
+use Rattle.usb_trace.proofs.Devices.{replies_due, devices_asked}
 use Rattle.usb_line.proofs.Returned.{shows_returned, falls_returned}
 use Rattle.usb_line.proofs.Posing.{can_pose_any}
 use Rattle.usb_line.proofs.Falling.{moved_after, all_left, devices_keep, devices_fall, waits_keeps, driver_spends}
@@ -113,7 +114,7 @@ module _ (s : Scene) (good : IsWellFormed s) (f : Progress) (run out_run on : Li
 
   -- the replies were those that were due
   due : moves.more ≡ next_due s e (asked_so_far s f e start) (asks s e start n)
-  due = replies_due s good f run.devices.items old.devices e near_end start has.moving.apt.asked has.moving.apt.tame moves.device device_there t now asks_same moves.more moves.after gave
+  due = replies_due s good (asked_now s f) run.devices.items old.devices e near_end start has.moving.apt.asked has.moving.apt.tame moves.device device_there t now asks_same moves.more moves.after gave
       ∙ ap (λ l. next_due s e l (asks s e start n)) asked
 
   stop : Stops (shape_at s e) start (f.so_far e) moves.more now moves.step
@@ -141,9 +142,9 @@ module _ (s : Scene) (good : IsWellFormed s) (f : Progress) (run out_run on : Li
   devices_so : on.devices.items ≡ slice_set run.devices.items (shape_at s e).device moves.after
   devices_so = moves.devices_so ∙ (λ i. slice_set (out.same_devices i).items (shown.is i).device moves.after)
 
-  devices_then : (k : Progress) → asked_now s k e ≡ asked_of s e f.rounds ++ asks s e start (length (had_after s f e start n)) → ((c : ℕ) → c ≢ e → asked_now s k c ≡ asked_now s f c) → ShowsDevices s k on.devices.items
-  devices_then k here elsewhere = devices_asked s good f run.devices.items old.devices e near_end start has.moving.apt.asked has.moving.apt.tame moves.device device_there t now asks_same moves.more moves.after gave
-      k (here ∙ more_asked) elsewhere on.devices.items devices_so
+  devices_then : (k : Progress) → asked_now s k e ≡ asked_of s e f.rounds ++ asks s e start (length (had_after s f e start n)) → ((c : ℕ) → c ≢ e → asked_now s k c ≡ asked_now s f c) → ShowsDevices s (asked_now s k) on.devices.items
+  devices_then k here elsewhere = devices_asked s good (asked_now s f) run.devices.items old.devices e near_end start has.moving.apt.asked has.moving.apt.tame moves.device device_there t now asks_same moves.more moves.after gave
+      (asked_now s k) (here ∙ more_asked) elsewhere on.devices.items devices_so
 
   -- its device has no more items left
   items_keep : all_left on.devices.items ≤ all_left run.devices.items
@@ -309,7 +310,7 @@ module _ (s : Scene) (good : IsWellFormed s) (f : Progress) (run out_run on : Li
       stands = subst (λ (p : Plain). Stands p (machine_of s) h) (sym plain) old.stands;
       calm = old.calm;
       linked = old.linked;
-      devices = subst (λ l. ShowsDevices s m l.items) (sym sleeps.same_devices) (devices_then m asked_here asked_else_here);
+      devices = subst (λ l. ShowsDevices s (asked_now s m) l.items) (sym sleeps.same_devices) (devices_then m asked_here asked_else_here);
       few_ends = old.few_ends;
       all_ends = ap length ends ∙ (length-set run.ends.items e (record moves.end { asleep = true }) ∙ old.all_ends);
       each_end = each_set (ShowsEnd s f) (ShowsEnd s m) run.ends.items new.ends.items e (record moves.end { asleep = true }) ends old.each_end end_own end_else;

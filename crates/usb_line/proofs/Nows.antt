@@ -33,7 +33,7 @@ use Rattle.usb_line.specs.Line.{Progress, adds, call_record, submit_answer, answ
 use Rattle.usb_trace.proofs.Entries.{AllFollow, grows}
 use Rattle.usb_trace.proofs.Claims.{claimed_same}
 use Rattle.usb_line.proofs.MayFollow.{mark_follows, reject_follows, withdraw_follows, unflag_follows}
-use Rattle.usb_line.specs.Shows.{IsApt}
+use Rattle.usb_trace.specs.Devices.{IsApt}
 use Rattle.usb_trace.proofs.Homes.{has_home, home_takes, fresh_window}
 use Rattle.usb_line.proofs.OnInterface.{fresh_apt}
 use Rattle.usb_line.proofs.Submits.{submit_follow}

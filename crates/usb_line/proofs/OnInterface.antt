@@ -30,10 +30,9 @@ use Rattle.usb_prepare.proofs.Facts.{bound_near, bound_home_ctl, urb_once}
 use Rattle.usb_class.specs.declared.owner.Owner.{Owner}
 use Rattle.usb_trace.specs.declared.rows.HostCall.TheVariants as host_call
 use Rattle.usb_trace.specs.Plan.{owner_of, fresh, submit_fault, interface_setup, setup_by, called_urb, host_call_on, host_call_alone, host_call_on_any, host_call_called, host_call_by, host_call_of}
-use Rattle.usb_line.specs.Between.{IsBare}
-use Rattle.usb_line.specs.Shows.{IsApt}
+use Rattle.usb_trace.specs.Devices.{IsBare, IsApt}
 use Rattle.usb_trace.proofs.Owners.{owner_bound}
-use Rattle.usb_line.proofs.Apt.{own_apt, packets_apt}
+use Rattle.usb_trace.proofs.Apt.{own_apt, packets_apt}
 use Rattle.usb_line.proofs.Called.{IsCalled, called_by}
 
 -- a control transfer whose setup packet halts no endpoint

@@ -23,7 +23,8 @@ use Rattle.usb_trace.specs.Plan.{machine_of, owner_of, again_in}
 use Rattle.usb_trace.specs.NewCores.{owners_of}
 use Rattle.usb_prepare.specs.Below.{below}
 use Rattle.usb_line.specs.Line.{at_start}
-use Rattle.usb_line.specs.Shows.{ShowsUrb, ShowsEnd, ShowsDevice, Shows, asked_now}
+use Rattle.usb_line.specs.Shows.{ShowsUrb, ShowsEnd, Shows, asked_now}
+use Rattle.usb_trace.specs.Devices.{ShowsDevice}
 use Rattle.usb_trace.specs.Handlers.{ShowsCores}
 use Rattle.usb_line.specs.Opened.{IsNewEnd, AreNewEnds, new_urb}
 use Rattle.usb_trace.specs.Due.{heard_before}
@@ -36,7 +37,7 @@ use Rattle.usb_trace.proofs.NewCoresShown.{pairs_longer}
 use Rattle.usb_prepare.proofs.Below.{map_below-suc, length-map_below, is-map_below, get-map_below}
 use Rattle.usb_prepare.proofs.Facts.{few_ends, unhalted_before}
 use Rattle.usb_line.proofs.Asked.{asked_idle}
-use Rattle.usb_line.proofs.Devices.{ruled_at, packets_at}
+use Rattle.usb_trace.proofs.Devices.{ruled_at, packets_at}
 
 one_more : (xs : List Shape) (ys : List EndRow) (x : Shape) (y : EndRow) → AreNewEnds xs ys → IsNewEnd x y → AreNewEnds (xs ++ x ∷ []) (ys ++ y ∷ [])
 one_more xs ys x y old new = record {
@@ -75,7 +76,7 @@ module _ (s : Scene) (good : IsWellFormed s) (run : LineRun) (stands : Stands ru
         acked = new.none;
       }
 
-  device_shown : (d : ℕ) (x : Scripted) → slice_get run.devices.items d ≡ Some x → ShowsDevice s at_start d x
+  device_shown : (d : ℕ) (x : Scripted) → slice_get run.devices.items d ≡ Some x → ShowsDevice s (asked_now s at_start) d x
   device_shown d x at =
       let near = slice_get_within run.devices.items d x at in
       let count = ready.count in
@@ -86,7 +87,7 @@ module _ (s : Scene) (good : IsWellFormed s) (run : LineRun) (stands : Stands ru
       unasked : (e : ℕ) → asked_now s at_start e ≡ []
       unasked e = asked_idle s at_start e refl
 
-      go : (device : SceneDevice) → slice_get s.devices d ≡ Some device → (b : Bool) → is_raw device.script.kind ≡ b → ShowsDevice s at_start d x
+      go : (device : SceneDevice) → slice_get s.devices d ≡ Some device → (b : Bool) → is_raw device.script.kind ≡ b → ShowsDevice s (asked_now s at_start) d x
       go device there true raw =
           let new = ready.each d device x there at in
           let known : is_raw_at s d ≡ true = ap raw_in there ∙ raw in record {

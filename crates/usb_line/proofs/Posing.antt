@@ -21,7 +21,8 @@ use Rattle.usb_prepare.proofs.Facts.{bound_near, urb_once}
 use Rattle.usb_class.specs.declared.owner.Owner.{Owner}
 use Rattle.usb_trace.specs.Plan.{owner_from, owner_of, origin_of, DriverQuestion, question_with, owner_question, question_at}
 use Rattle.usb_machine.specs.Completion.{after_window}
-use Rattle.usb_line.specs.Shows.{IsApt, rank}
+use Rattle.usb_line.specs.Shows.{rank}
+use Rattle.usb_trace.specs.Devices.{IsApt}
 use Rattle.usb_line.specs.Back.{CanPose, CanPoseAny}
 use Rattle.usb_trace.proofs.Homes.{has_home, home_shape}
 use Rattle.usb_trace.proofs.Owners.{owner_at, owner_bound, owner_ctl}

@@ -35,7 +35,7 @@ use Rattle.usb_line.proofs.Submits.{submit_about}
 use Rattle.usb_trace.proofs.Homes.{has_home, home_shape}
 use Rattle.usb_line.proofs.Killing.{plain_urbs}
 use Rattle.usb_trace.proofs.Owners.{owner_size}
-use Rattle.usb_line.proofs.Apt.{bare_apt}
+use Rattle.usb_trace.proofs.Apt.{bare_apt}
 
 -- the entries of a read are about its URB
 pub read_about : (s : Scene) (u : ℕ) → AreAbout u (read_entries s u)

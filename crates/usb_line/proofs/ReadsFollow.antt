@@ -23,7 +23,7 @@ use Rattle.usb_prepare.specs.Ends.{shapes_of, shape_at}
 use Rattle.usb_prepare.specs.Layout.{urb_count, home}
 use Rattle.usb_class.specs.declared.owner.Owner.{Owner}
 use Rattle.usb_trace.specs.Plan.{machine_of, owner_of, number_of, reading, read_of, main_pass}
-use Rattle.usb_line.specs.Between.{IsBare}
+use Rattle.usb_trace.specs.Devices.{IsBare}
 use Rattle.usb_trace.specs.Run.{submit_of, read_entries_by, read_entries, opening}
 use Rattle.usb_line.specs.Line.{at_start, begun}
 use Rattle.usb_trace.proofs.Owners.{owner_size}

@@ -23,8 +23,7 @@ use Rattle.usb_class.specs.declared.owner.Owner.{Owner}
 use Rattle.usb_trace.specs.Plan.{owner_of}
 use Rattle.usb_trace.specs.Run.{resent_as}
 use Rattle.usb_class.specs.Handlers.{action_by}
-use Rattle.usb_line.specs.Between.{IsBare}
-use Rattle.usb_line.specs.Shows.{IsApt}
+use Rattle.usb_trace.specs.Devices.{IsBare, IsApt}
 use Rattle.usb_trace.proofs.Moves.{moved_same}
 
 -- without a setup packet an endpoint that takes one length takes every length

@@ -35,7 +35,8 @@ use Rattle.usb_class.specs.Handlers.{action_by}
 use Rattle.usb_line.specs.Line.{Progress, outcome_by, round_of, given_back}
 use Rattle.usb_trace.specs.GivebackRow.{giveback_row, brought_bytes, sent_bytes}
 use Rattle.usb_machine.specs.Completion.{after_window}
-use Rattle.usb_line.specs.Shows.{IsApt, HoldsTransfer, ShowsDevices, ShowsUrb, Shows, rank, turns_left}
+use Rattle.usb_line.specs.Shows.{HoldsTransfer, ShowsUrb, Shows, rank, turns_left, asked_now}
+use Rattle.usb_trace.specs.Devices.{IsApt, ShowsDevices}
 use Rattle.usb_trace.specs.GivebackRow.{Adds}
 use Rattle.usb_line.specs.Back.{MayGive, CanPoseAny, is_again, row_back, GaveBack, given_after, QuestionBy, SettledBy, Settled, IsPosedBy}
 use Rattle.usb_class.specs.Handlers.{Noted}
@@ -287,9 +288,9 @@ module _ (s : Scene) (good : IsWellFormed s) (f : Progress) (run : LineRun) (old
           go (Some q) is = by_outcome q r.outcome is.0
 
       -- the object shows the progress with the giveback
-      pub shows_returned : ShowsDevices s (given_back s f r) mid.devices.items → Shows s (given_back s f r) new
+      pub shows_returned : ShowsDevices s (asked_now s (given_back s f r)) mid.devices.items → Shows s (given_back s f r) new
       shows_returned devices = shows_back s f r pose run new old (subst (λ (p : Plain). Stands p (machine_of s) (f.history ++ giveback_entries s r)) (sym (λ i. (settled_so i).plain)) done.1)
-          (subst (λ l. ShowsDevices s (given_back s f r) l.items) (sym same_devices) devices) count new_row
+          (subst (λ l. ShowsDevices s (asked_now s (given_back s f r)) l.items) (sym same_devices) devices) count new_row
           (record end { received = back.received }) ends
           (end_own s f r end now back.received (old.each_end (home s u) end there) is (subst (λ (x : EndRow). Adds x.received back.received (sent_bytes x.shape now)) mid_end back.more))
           (decided.1.cores back.acted new back.acted_cores settled) told ((λ i. (settled_so i).down) ∙ (back.host ∙ mid_same.host))

@@ -27,10 +27,10 @@ use Rattle.usb_trace.specs.declared.rows.Outcome.TheVariants as outcome
 use Rattle.usb_prepare.specs.Ends.{shape_at}
 use Rattle.usb_prepare.specs.Layout.{home}
 use Rattle.usb_trace.specs.Plan.{machine_of, owner_of, DriverQuestion, question_at}
-use Rattle.usb_line.specs.Between.{IsBare}
+use Rattle.usb_trace.specs.Devices.{IsBare}
 use Rattle.usb_trace.specs.Run.{Giveback, moved_in, resent, rest_entry, handled_by, handler_entries, given_entries, giveback_entries, episode_of, is_aside, is_first, acts, IsGiveback, IsHandled, AreHandled, rounds_at, replies_in, firsts_of, firsts_after, asked_in, asked_of}
-use Rattle.usb_line.specs.Line.{Progress, with_at, given_back, asks}
-use Rattle.usb_trace.specs.Due.{next_due}
+use Rattle.usb_line.specs.Line.{Progress, with_at, given_back}
+use Rattle.usb_trace.specs.Due.{asks, next_due}
 use Rattle.usb_trace.proofs.Entries.{grows, legal_after}
 use Rattle.usb_line.proofs.MayFollow.{once}
 use Rattle.usb_trace.proofs.AskedEach.{asked_each}

@@ -23,9 +23,9 @@ use Rattle.usb_scene.specs.declared.scene.Scene.{Scene}
 use Rattle.usb_prepare.specs.Ends.{ends_of, shape_at}
 use Rattle.usb_trace.specs.Plan.{machine_of, owner_of}
 use Rattle.usb_trace.specs.Run.{Giveback, giveback_entries, episode_of, is_aside, IsGiveback, AreHandled, rounds_at, replies_in, firsts_of, asked_of}
-use Rattle.usb_line.specs.Between.{IsBare}
-use Rattle.usb_line.specs.Line.{Progress, takes, takes_below, with_takes, had_after, waits, asks, asked_so_far}
-use Rattle.usb_trace.specs.Due.{next_due}
+use Rattle.usb_trace.specs.Devices.{IsBare}
+use Rattle.usb_line.specs.Line.{Progress, takes, takes_below, with_takes, had_after, waits, asked_so_far}
+use Rattle.usb_trace.specs.Due.{asks, next_due}
 use Rattle.usb_trace.proofs.Entries.{grows, legal_after}
 use Rattle.usb_line.proofs.Takes.{below_pass, below_follow, below_sent, pending_above, pending_below}
 use Rattle.usb_trace.proofs.Stills.{IsStill, AreStill}

@@ -12,12 +12,12 @@ use Rattle.usb_prepare.specs.Layout.{home}
 use Rattle.usb_trace.specs.Plan.{machine_of, host_call_of}
 use Rattle.usb_trace.specs.Run.{CallRecord, is_first, down_after}
 use Rattle.usb_line.specs.Line.{Progress, adds, replies_had, with_call_record}
-use Rattle.usb_line.specs.Shows.{IsMoving, HoldsTransfer, Shows}
+use Rattle.usb_line.specs.Shows.{IsMoving, HoldsTransfer, Shows, asked_now}
 use Rattle.usb_trace.proofs.Stills.{AreStill, stills_pending, stills_sent}
 use Rattle.usb_line.proofs.Calm.{calm_still, linked_still}
 use Rattle.usb_line.proofs.Closing.{still_queued}
 use Rattle.usb_line.proofs.Asked.{asked_same}
-use Rattle.usb_line.proofs.Devices.{devices_same}
+use Rattle.usb_trace.proofs.Devices.{devices_same}
 
 module _ (s : Scene) (f : Progress) (xs : List Entry) (still : AreStill xs) where
   abbrev k : Progress
@@ -45,7 +45,7 @@ module _ (s : Scene) (f : Progress) (xs : List Entry) (still : AreStill xs) wher
     stands = stands;
     calm = calm_still f.history xs still old.calm;
     linked = linked_still f.history xs still old.linked;
-    devices = devices_same s f k run.devices.items
+    devices = devices_same s (asked_now s f) (asked_now s k) run.devices.items
         (λ e. asked_same s f k e refl refl (old.unmoved e) (λ u others first. (others, stills_pending f.history xs still (machine_of s) e ∙ first, stills_sent f.history xs still u)))
         old.devices;
     few_ends = old.few_ends;
@@ -70,7 +70,7 @@ module _ (s : Scene) (f : Progress) (run : LineRun) (old : Shows s f run) where
     stands = old.stands;
     calm = old.calm;
     linked = old.linked;
-    devices = devices_same s f (with_call_record s f d) run.devices.items (λ e. asked_same s f (with_call_record s f d) e refl refl (old.unmoved e) (λ u others first. (others, first, refl))) old.devices;
+    devices = devices_same s (asked_now s f) (asked_now s (with_call_record s f d)) run.devices.items (λ e. asked_same s f (with_call_record s f d) e refl refl (old.unmoved e) (λ u others first. (others, first, refl))) old.devices;
     few_ends = old.few_ends;
     all_ends = old.all_ends;
     each_end = λ e end at. (let o = old.each_end e end at in record { is = o.is; sleeps = o.sleeps; acked = o.acked });

@@ -28,7 +28,7 @@ use Rattle.usb_line.specs.Shows.{Shows}
 use Rattle.usb_line.specs.Calls.{MayMake, Made}
 use Rattle.usb_line.specs.Sent.{MaySend, Sent}
 use Rattle.usb_trace.proofs.Stills.{AreStill}
-use Rattle.usb_line.specs.Shows.{IsApt}
+use Rattle.usb_trace.specs.Devices.{IsApt}
 use Rattle.usb_trace.proofs.Homes.{has_home, home_takes, fresh_window}
 use Rattle.usb_line.proofs.OnInterface.{fresh_apt}
 use Rattle.usb_prepare.proofs.Facts.{home_near}

@@ -29,13 +29,14 @@ use Rattle.usb_prepare.specs.Layout.{home}
 use Rattle.usb_trace.specs.Plan.{machine_of}
 use Rattle.usb_trace.specs.Run.{is_first}
 use Rattle.usb_line.specs.Line.{Progress, adds, replies_had}
-use Rattle.usb_line.specs.Shows.{IsApt, HoldsTransfer, ShowsUrb, ShowsDevices, Shows, asked_now}
+use Rattle.usb_line.specs.Shows.{HoldsTransfer, ShowsUrb, Shows, asked_now}
+use Rattle.usb_trace.specs.Devices.{IsApt, ShowsDevices}
 use Rattle.usb_trace.specs.Handlers.{ShowsCores}
 use Rattle.usb_line.specs.Sent.{MaySend, Sent, Keeps}
 use Rattle.usb_line.proofs.MayFollow.{once}
 use Rattle.usb_line.proofs.Marked.{first_at_home}
 use Rattle.usb_line.proofs.Asked.{asked_same}
-use Rattle.usb_line.proofs.Devices.{devices_same}
+use Rattle.usb_trace.proofs.Devices.{devices_same}
 use Rattle.usb_line.proofs.Submits.{submit_state, submit_other, submit_pending, submit_sent}
 use Rattle.usb_line.proofs.Calm.{calm_submit, linked_submit, calm_places}
 use Rattle.usb_line.proofs.Backs.{nothing_moved}
@@ -102,7 +103,7 @@ module _ (s : Scene) (f : Progress) (run : LineRun) (old : Shows s f run) (p u :
     stands = stands;
     calm = calm_submit s h p u t c old.calm;
     linked = linked_submit s h p u t c old.linked;
-    devices = subst (λ l. ShowsDevices s k l.items) (sym devices) (devices_same s f k run.devices.items asked old.devices);
+    devices = subst (λ l. ShowsDevices s (asked_now s k) l.items) (sym devices) (devices_same s (asked_now s f) (asked_now s k) run.devices.items asked old.devices);
     few_ends = old.few_ends;
     all_ends = ap (λ v. length v.items) ends ∙ old.all_ends;
     each_end = λ e end at. (let o = old.each_end e end (ap (λ v. slice_get v.items e) (sym ends) ∙ at) in record { is = o.is; sleeps = o.sleeps; acked = o.acked });

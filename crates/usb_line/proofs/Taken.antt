@@ -17,9 +17,9 @@ use Rattle.usb_prepare.specs.Layout.{home}
 use Rattle.usb_trace.specs.Plan.{machine_of}
 use Rattle.usb_trace.specs.Run.{is_first}
 use Rattle.usb_line.specs.Line.{Progress, with_takes, replies_had}
-use Rattle.usb_line.specs.Shows.{HoldsTransfer, Shows}
+use Rattle.usb_line.specs.Shows.{HoldsTransfer, Shows, asked_now}
 use Rattle.usb_line.proofs.Asked.{asked_same}
-use Rattle.usb_line.proofs.Devices.{devices_same}
+use Rattle.usb_trace.proofs.Devices.{devices_same}
 use Rattle.usb_line.proofs.Takes.{below_state, below_sent, pending_above, pending_below}
 use Rattle.usb_line.proofs.Calm.{calm_takes, linked_takes}
 
@@ -70,7 +70,7 @@ module _ (s : Scene) (f : Progress) (run : LineRun) (old : Shows s f run) (plain
     stands = stands;
     calm = calm_takes s h (ends_of s) old.calm;
     linked = linked_takes s h (ends_of s) old.linked;
-    devices = devices_same s f k run.devices.items
+    devices = devices_same s (asked_now s f) (asked_now s k) run.devices.items
         (λ d. asked_same s f k d refl refl (old.unmoved d)
         (λ u others first. (others ++ (longer d).0, (longer d).1 ∙ ap (λ l. l ++ (longer d).0) first, below_sent s h (ends_of s) u)))
         old.devices;

@@ -30,8 +30,8 @@ use Rattle.usb_prepare.specs.Layout.{home}
 use Rattle.usb_trace.specs.Plan.{machine_of, owner_of, DriverQuestion, question_at}
 use Rattle.usb_trace.specs.Run.{Giveback, resent, given_entries, giveback_entries, is_first, is_accepted, may_again, question_out, asks_or_rests, acts, IsGiveback, IsHandled, asked_in, asked_of}
 use Rattle.usb_class.specs.Handlers.{action_by}
-use Rattle.usb_line.specs.Line.{Progress, with_takes, takes_below, is_unlinked, marked_of, had_after, GoesTo, IsServed, IsMarked, outcome_by, outcome_at, round_of, given_back, replies_had, waits, Passes, none, over, stops, Gives, unlinked, ended, GivesBack, one, IsIdle, asks}
-use Rattle.usb_trace.specs.Due.{next_due}
+use Rattle.usb_line.specs.Line.{Progress, with_takes, takes_below, is_unlinked, marked_of, had_after, GoesTo, IsServed, IsMarked, outcome_by, outcome_at, round_of, given_back, replies_had, waits, Passes, none, over, stops, Gives, unlinked, ended, GivesBack, one, IsIdle}
+use Rattle.usb_trace.specs.Due.{asks, next_due}
 use Rattle.usb_line.proofs.Posing.{can_pose_any}
 use Rattle.usb_trace.proofs.Entries.{stays}
 use Rattle.usb_line.proofs.MayFollow.{once}

@@ -28,8 +28,10 @@ use Rattle.usb_prepare.specs.Ends.{ends_of, shape_at}
 use Rattle.usb_prepare.specs.Layout.{home}
 use Rattle.usb_trace.specs.Plan.{machine_of, owner_of}
 use Rattle.usb_trace.specs.Run.{Giveback, is_first, asked_of, resent}
-use Rattle.usb_line.specs.Line.{Progress, asks, is_unlinked, marked_below, marked_of, replies_had, round_of, given_back}
-use Rattle.usb_line.specs.Shows.{asked_now, ShowsDevices, Shows, turns_left}
+use Rattle.usb_line.specs.Line.{Progress, is_unlinked, marked_below, marked_of, replies_had, round_of, given_back}
+use Rattle.usb_trace.specs.Due.{asks}
+use Rattle.usb_line.specs.Shows.{asked_now, Shows, turns_left}
+use Rattle.usb_trace.specs.Devices.{ShowsDevices}
 use Rattle.usb_line.specs.Back.{MayGive, GaveBack}
 use Rattle.usb_line.specs.Turned.{TakesOut, GaveUnlinked}
 use Rattle.usb_line.proofs.MayFollow.{once}
@@ -43,7 +45,7 @@ use Rattle.usb_line.proofs.Scanning.{within}
 use Rattle.usb_line.proofs.Returned.{shows_returned, falls_returned}
 use Rattle.usb_line.proofs.Falling.{all_left}
 use Rattle.usb_line.proofs.Resending.{moved_fits}
-use Rattle.usb_line.proofs.Devices.{devices_same}
+use Rattle.usb_trace.proofs.Devices.{devices_same}
 
 -- who is among those that pass a test passes it
 passes : (p : ℕ → Bool) (u : ℕ) (us : List ℕ) → 0 < times u (filter p us) → p u ≡ true
@@ -140,8 +142,8 @@ module _ (s : Scene) (good : IsWellFormed s) (f : Progress) (run mid new : LineR
       (λ is. ap (asked_now s (given_back s f r)) (sym is) ∙ (asked_here (is_first u (pending_of (machine_of s) h (home s u))) refl ∙ ap (asked_now s f) is))
       (λ off. asked_others s f r may.can old.stands.legal old.unmoved d off)
 
-  devices : ShowsDevices s (given_back s f r) mid.devices.items
-  devices = subst (λ l. ShowsDevices s (given_back s f r) l.items) (sym out.same_devices) (devices_same s f (given_back s f r) run.devices.items asked_all old.devices)
+  devices : ShowsDevices s (asked_now s (given_back s f r)) mid.devices.items
+  devices = subst (λ l. ShowsDevices s (asked_now s (given_back s f r)) l.items) (sym out.same_devices) (devices_same s (asked_now s f) (asked_now s (given_back s f r)) run.devices.items asked_all old.devices)
 
   pub gave_unlinked : GaveUnlinked s f new
   gave_unlinked = record {

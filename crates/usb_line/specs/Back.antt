@@ -33,7 +33,7 @@ use Rattle.usb_line.specs.declared.run.LineRun.{LineRun}
 use Rattle.usb_prepare.specs.Ends.{shape_at}
 use Rattle.usb_prepare.specs.Layout.{home}
 use Rattle.usb_line.specs.declared.giveback.PosedQuestion.{PosedQuestion}
-use Rattle.usb_line.specs.Between.{IsBare}
+use Rattle.usb_trace.specs.Devices.{IsBare}
 use Rattle.usb_trace.specs.Plan.{machine_of, owner_of, DriverQuestion, question_at}
 use Rattle.usb_line.specs.Line.{submit_answer}
 use Rattle.usb_trace.specs.Run.{Giveback, moved_in, resent, asked_entries, handled_by, given_entries, giveback_entries}

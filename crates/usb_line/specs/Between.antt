@@ -1,13 +1,11 @@
 -- What holds between the blocks of a run.
-use Rattle.std.specs.Prelude.{ℕ, ◌≡◌, Bool, true, false, List, Option, Some, None}
+use Rattle.std.specs.Prelude.{ℕ, ◌≡◌, Bool, true, false, List}
 use Rattle.usb_machine.specs.declared.state.Mark.{Mark as MarkState}
 use Rattle.usb_machine.specs.declared.state.Mark.TheVariants.{Clear, Unlinked, Finished}
 use Rattle.usb_machine.specs.declared.state.UrbState.{UrbState}
 use Rattle.usb_machine.specs.declared.entry.Entry.{Entry}
 use Rattle.usb_machine.specs.History.{state_of}
 use Rattle.usb_machine.specs.Parts.{part_of, owes}
-use Rattle.usb_class.specs.Handler.{is_ctl}
-use Rattle.usb_class.specs.declared.owner.Owner.{Owner}
 
 abbrev pub is_finished : MarkState → Bool
 is_finished Clear = false
@@ -26,8 +24,3 @@ IsCalm h = (u : ℕ) → IsAtRest (state_of h u)
 -- no pass owes a Link
 abbrev pub AllLinked : List Entry → Type 0
 AllLinked h = (p u : ℕ) → owes (part_of h p) u ≡ false
-
--- the setup packet of a transfer with which a driver may go on: none
-abbrev pub IsBare : Option Owner → Option (List ℕ) → Type 0
-IsBare None setup = Unit {0}
-IsBare (Some o) setup = is_ctl o.role ≡ false → setup ≡ None

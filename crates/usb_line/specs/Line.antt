@@ -1,5 +1,5 @@
 -- The run in line order: calls one after another, each with the turns that it waits for, and then the close.
-use Rattle.std.specs.Prelude.{ℕ, zero, suc, ◌≡◌, ◌<◌, ◌==◌, ◌&&◌, not, Bool, true, false, if◌then◌else◌, ◌⊎◌, List, [], ◌∷◌, ◌++◌, length, map, filter, replicate, Option, Some, None}
+use Rattle.std.specs.Prelude.{ℕ, zero, suc, ◌≡◌, ◌<◌, ◌==◌, ◌&&◌, not, Bool, true, false, if◌then◌else◌, ◌⊎◌, List, [], ◌∷◌, ◌++◌, length, map, filter, Option, Some, None}
 use Rattle.usb_types.specs.declared.errno.Errno.{Errno}
 use Rattle.usb_types.specs.declared.errno.Errno.TheVariants.{ENODEV, ESHUTDOWN}
 use Rattle.usb_types.specs.declared.errno.Code.{Code}
@@ -26,7 +26,7 @@ use Rattle.usb_machine.specs.HostCalls.{rested_of}
 use Rattle.usb_xfer.specs.Replies.{Reply, Question}
 use Rattle.usb_xfer.specs.declared.packet.Step.{Step}
 use Rattle.usb_xfer.specs.declared.packet.Step.TheVariants.{More, Waiting, Ended}
-use Rattle.usb_xfer.specs.Moved.{moved, moved_state, IsWhole, question_of}
+use Rattle.usb_xfer.specs.Moved.{moved, moved_state, IsWhole}
 use Rattle.usb_scene.specs.declared.scene.Scene.{Scene}
 use Rattle.usb_scene.specs.declared.scene.Call.{Call}
 use Rattle.usb_trace.specs.declared.rows.HostCall.{HostCall}
@@ -39,7 +39,7 @@ use Rattle.usb_prepare.specs.Ends.{ends_of, shape_at}
 use Rattle.usb_prepare.specs.Layout.{home}
 use Rattle.usb_trace.specs.Plan.{machine_of, DriverQuestion, question_at, submit_fault, host_call_of, pass_of, main_pass, calls_of}
 use Rattle.usb_trace.specs.Run.{urbs_of, CallRecord, call_entries, down_after, Giveback, given_entries, giveback_entries, acts, is_first, opening, seen_quiet, asked_of}
-use Rattle.usb_trace.specs.Due.{next_due}
+use Rattle.usb_trace.specs.Due.{asks, next_due}
 use Rattle.std.specs.List.{flat_map}
 
 -- how far a run is: its history, its calls, its givebacks, for each endpoint the replies that its first pending transfer
@@ -65,10 +65,6 @@ begun s = adds at_start (opening s)
 -- a function with another value at e
 abbrev pub with_at : {X : Type 0} → ℕ → X → (ℕ → X) → ℕ → X
 with_at e x f d = if d == e then x else f d
-
--- a transfer asks so often at e
-abbrev pub asks : Scene → ℕ → Transfer → ℕ → List Question
-asks s e t n = replicate n (question_of (shape_at s e) t)
 
 -- what e was asked by its givebacks, and then by this transfer, which its replies so far are of
 abbrev pub asked_so_far : Scene → Progress → ℕ → Transfer → List Question

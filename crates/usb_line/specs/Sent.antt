@@ -15,7 +15,8 @@ use Rattle.usb_line.specs.declared.run.LineRun.{LineRun}
 use Rattle.usb_prepare.specs.Layout.{home}
 use Rattle.usb_trace.specs.Plan.{machine_of, fresh}
 use Rattle.usb_line.specs.Line.{Progress, adds}
-use Rattle.usb_line.specs.Shows.{IsApt, Shows}
+use Rattle.usb_line.specs.Shows.{Shows}
+use Rattle.usb_trace.specs.Devices.{IsApt}
 use Rattle.usb_line.specs.Steps.{passes_of}
 use Rattle.usb_line.specs.Calls.{MayMake}
 use Rattle.usb_line.specs.Turned.{SameElse}

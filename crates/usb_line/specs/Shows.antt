@@ -1,5 +1,5 @@
 -- What the code of a run keeps of it.
-use Rattle.std.specs.Prelude.{ℕ, ◌≡◌, ◌+◌, ◌-◌, ◌<◌, ◌^◌, Bool, true, false, if◌then◌else◌, List, [], ◌++◌, length, map, sum_by, slice_get, Option, Some, None, option_and_then}
+use Rattle.std.specs.Prelude.{ℕ, ◌≡◌, ◌+◌, ◌-◌, ◌<◌, ◌^◌, Bool, true, false, if◌then◌else◌, List, [], length, map, sum_by, slice_get, Option, Some, None, option_and_then}
 use Rattle.std.specs.Option.{option_map_or}
 use Rattle.usb_machine.specs.declared.transfer.Transfer.{Transfer}
 use Rattle.usb_machine.specs.declared.entry.Entry.{Entry}
@@ -7,38 +7,25 @@ use Rattle.usb_machine.specs.Completion.{after_window}
 use Rattle.usb_machine.specs.declared.plain.Plain.{Plain}
 use Rattle.usb_machine.specs.History.{state_of, pending_of, sent_of}
 use Rattle.usb_machine.specs.Plain.{Stands}
-use Rattle.usb_xfer.specs.Direction.{asked_at}
-use Rattle.usb_xfer.specs.Moved.{moved, question_of, IsOpen}
-use Rattle.usb_device.specs.declared.scripted.Scripted.{Scripted}
-use Rattle.usb_device.specs.Device.{Call, questions_at, Stands as ScriptStands}
-use Rattle.usb_device.specs.Laws.{sets_halt, NoneHalts}
+use Rattle.usb_xfer.specs.Moved.{moved, IsOpen}
 use Rattle.usb_device.specs.Left.{items_left}
 use Rattle.usb_class.specs.Handler.{is_ctl}
 use Rattle.usb_xfer.specs.Replies.{Question}
 use Rattle.usb_scene.specs.declared.scene.Scene.{Scene}
-use Rattle.usb_scene.specs.declared.scene.SceneDevice.{SceneDevice}
 use Rattle.usb_scene.specs.WellFormed.{IsWellFormed}
 use Rattle.usb_line.specs.declared.run.UrbRow.{UrbRow}
 use Rattle.usb_line.specs.declared.run.EndRow.{EndRow}
 use Rattle.usb_line.specs.declared.run.LineRun.{LineRun}
-use Rattle.usb_prepare.specs.Ends.{ends_of, shape_at, is_raw_at}
+use Rattle.usb_prepare.specs.Ends.{ends_of, shape_at}
 use Rattle.usb_prepare.specs.Layout.{urb_count, home}
 use Rattle.usb_class.specs.declared.owner.Owner.{Owner}
 use Rattle.usb_trace.specs.Plan.{machine_of, owner_of, again_of}
 use Rattle.usb_trace.specs.Run.{times_back, asked_of}
 use Rattle.usb_trace.specs.Handlers.{ShowsCores}
-use Rattle.usb_line.specs.Between.{IsCalm, AllLinked, IsBare}
-use Rattle.usb_trace.specs.Due.{is_ruled, heard_before}
+use Rattle.usb_line.specs.Between.{IsCalm, AllLinked}
+use Rattle.usb_trace.specs.Devices.{IsApt, ShowsDevices}
 use Rattle.usb_trace.specs.GivebackRow.{giveback_row, acked_at, IsReceived}
 use Rattle.usb_line.specs.Line.{Progress, asked_so_far, replies_had, Gives, GivesBack, IsIdle, woken}
-
--- URB u may have this transfer: its home is asked at its own address, the transfer halts no endpoint of a device that isn't
--- raw, and where a driver may go on with it, it has no setup packet
-pub record IsApt (s : Scene) (u : ℕ) (t : Transfer) : Type 0 where
-  pub near : u < urb_count s
-  pub asked : asked_at (shape_at s (home s u)) ≡ (shape_at s (home s u)).address
-  pub tame : is_raw_at s (shape_at s (home s u)).device ≡ false → sets_halt (question_of (shape_at s (home s u)) t) ≡ false
-  pub bare : IsBare (owner_of s u) t.setup
 
 -- the transfer is the one that was sent, as its replies so far moved it, and they did not end it
 pub record IsMoving (s : Scene) (f : Progress) (u : ℕ) (t : Transfer) : Type 0 where
@@ -76,28 +63,12 @@ asked_by s f e (Some t) = asked_so_far s f e t
 abbrev pub asked_now : Scene → Progress → ℕ → List Question
 asked_now s f e = asked_by s f e (first_sent s f e)
 
--- the device heard these calls: at each of its endpoints as many as the endpoint was asked in the run, and at one that answers
--- by rules those questions, after what it heard before. One of a class was asked for no halt
-pub record ShowsDevice (s : Scene) (f : Progress) (d : ℕ) (scripted : Scripted) : Type 0 where
-  pub device : SceneDevice
-  pub at : slice_get s.devices d ≡ Some device
-  pub calls : List Call
-  pub stands : ScriptStands scripted device.script calls
-  pub counts : (e : ℕ) → e < ends_of s → (shape_at s e).device ≡ d → is_ruled s e ≡ false → length (questions_at (shape_at s e).address calls) ≡ length (asked_now s f e)
-  pub rules : (e : ℕ) → e < ends_of s → (shape_at s e).device ≡ d → is_ruled s e ≡ true → questions_at 0 calls ≡ questions_at 0 (heard_before s d) ++ asked_now s f e
-  pub unhalted : is_raw_at s d ≡ false → NoneHalts calls
-
--- each device of the scene is there
-pub record ShowsDevices (s : Scene) (f : Progress) (devices : List Scripted) : Type 0 where
-  pub all : length devices ≡ length s.devices
-  pub each : (d : ℕ) (scripted : Scripted) → slice_get devices d ≡ Some scripted → ShowsDevice s f d scripted
-
 -- the run's object has come as far as f: its machine, its devices, endpoints and URBs, the cores of its drivers, and what came back
 pub record Shows (s : Scene) (f : Progress) (run : LineRun) : Type 0 where
   pub stands : Stands run.plain (machine_of s) f.history
   pub calm : IsCalm f.history
   pub linked : AllLinked f.history
-  pub devices : ShowsDevices s f run.devices.items
+  pub devices : ShowsDevices s (asked_now s f) run.devices.items
   pub few_ends : ends_of s < 2 ^ 31
   pub all_ends : length run.ends.items ≡ ends_of s
   pub each_end : (e : ℕ) (end : EndRow) → slice_get run.ends.items e ≡ Some end → ShowsEnd s f e end

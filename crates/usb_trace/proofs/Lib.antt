@@ -30,3 +30,8 @@ pub mod Claimed
 pub mod Homes
 pub mod Numbered
 pub mod NewCoresShown
+pub mod Questions
+pub mod Controls
+pub mod Chained
+pub mod Apt
+pub mod Devices

@@ -1,7 +1,9 @@
--- The replies that are due at an endpoint, after those that it gave.
-use Rattle.std.specs.Prelude.{ℕ, Bool, not, ◌&&◌, ◌==◌, if◌then◌else◌, List, [], ◌∷◌, ◌++◌, length, map, slice_get, slice_index_or, Option, Some, None}
+-- What an endpoint is asked, and the replies that are due, after those that it gave.
+use Rattle.std.specs.Prelude.{ℕ, Bool, not, ◌&&◌, ◌==◌, if◌then◌else◌, List, [], ◌∷◌, ◌++◌, length, map, replicate, slice_get, slice_index_or, Option, Some, None}
+use Rattle.usb_machine.specs.declared.transfer.Transfer.{Transfer}
 use Rattle.usb_xfer.specs.declared.script.What.TheVariants.{Stall}
 use Rattle.usb_xfer.specs.Replies.{Reply, Question}
+use Rattle.usb_xfer.specs.Moved.{question_of}
 use Rattle.usb_device.specs.Device.{Call, reply_to}
 use Rattle.usb_device.specs.Replied.{call_of}
 use Rattle.usb_scene.specs.declared.scene.Scene.{Scene}
@@ -10,6 +12,10 @@ use Rattle.usb_prepare.specs.Ends.{shape_at, is_raw_at}
 use Rattle.usb_prepare.specs.Prepared.{probes_of}
 use Rattle.usb_trace.specs.Script.{replies_from}
 use Rattle.usb_trace.specs.Plan.{script_of}
+
+-- a transfer asks so often at e
+abbrev pub asks : Scene → ℕ → Transfer → ℕ → List Question
+asks s e t n = replicate n (question_of (shape_at s e) t)
 
 -- whether an endpoint answers by rules beside its items: 00 of a device of a class
 abbrev pub is_ruled : Scene → ℕ → Bool

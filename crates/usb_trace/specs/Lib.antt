@@ -2,6 +2,7 @@ pub mod Script
 pub mod Plan
 pub mod Claims
 pub mod Due
+pub mod Devices
 pub mod Run
 pub mod GivebackRow
 pub mod Rows

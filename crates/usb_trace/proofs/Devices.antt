@@ -1,4 +1,4 @@
--- The devices of a run, as the run's object shows them.
+-- The devices of a run, by what they heard.
 use Rattle.std.proofs.Common.{ℕ, ◌≡◌, ◌≢◌, ◌+◌, ◌<◌, Bool, true, false, cond, ◌&&◌, not, eqb, Some, List, ◌++◌, length, map, refl, sym, ap, ◌∙◌, subst, append_assoc, length-append, eq-eqb, eqb-true, true≢false}
 use Rattle.std.specs.Prelude.{slice_get, slice_set}
 use Rattle.std.specs.List.{All}
@@ -25,13 +25,12 @@ use Rattle.usb_prepare.specs.Ends.{ends_of, shape_at, raw_in, is_raw_at}
 use Rattle.usb_prepare.proofs.Facts.{ends_apart}
 use Rattle.usb_trace.specs.Script.{replies_from}
 use Rattle.usb_trace.specs.Plan.{script_in, script_of}
-use Rattle.usb_trace.specs.Due.{is_ruled, heard_before, answers_from, next_due}
-use Rattle.usb_line.specs.Line.{Progress, asks}
-use Rattle.usb_line.specs.Shows.{asked_now, ShowsDevice, ShowsDevices}
+use Rattle.usb_trace.specs.Due.{is_ruled, heard_before, answers_from, next_due, asks}
+use Rattle.usb_trace.specs.Devices.{ShowsDevice, ShowsDevices}
 use Rattle.usb_device.proofs.Lookups.{each_set}
-use Rattle.usb_line.proofs.Controls.{zero_control}
-use Rattle.usb_line.proofs.Questions.{control_moves, tame_too}
-use Rattle.usb_line.proofs.Chained.{calls_at, asked_here, asked_elsewhere, answers, length-answers, raw_answers, unhalted_answers, ruled_answers, all_same, Heard, chain}
+use Rattle.usb_trace.proofs.Controls.{zero_control}
+use Rattle.usb_trace.proofs.Questions.{control_moves, tame_too}
+use Rattle.usb_trace.proofs.Chained.{calls_at, asked_here, asked_elsewhere, answers, length-answers, raw_answers, unhalted_answers, ruled_answers, all_same, Heard, chain}
 
 is_raw_kind : (kind : Kind) → is_raw kind ≡ true → kind ≡ Raw
 is_raw_kind Raw e = refl
@@ -54,8 +53,8 @@ pub packets_at : (s : Scene) (e : ℕ) → is_ruled s e ≡ false → is_raw_at 
 packets_at s e is other at = true≢false (sym (λ i. not (other i) && eq-eqb (shape_at s e).address 0 at i) ∙ is)
 
 -- where each endpoint was asked the same, nothing changed
-pub devices_same : (s : Scene) (f k : Progress) (devices : List Scripted) → ((e : ℕ) → asked_now s k e ≡ asked_now s f e) → ShowsDevices s f devices → ShowsDevices s k devices
-devices_same s f k devices same old = record {
+pub devices_same : (s : Scene) (asked now : ℕ → List Question) (devices : List Scripted) → ((e : ℕ) → now e ≡ asked e) → ShowsDevices s asked devices → ShowsDevices s now devices
+devices_same s asked now devices same old = record {
   all = old.all;
   each = λ d x at. (let o = old.each d x at in record {
     device = o.device;
@@ -69,7 +68,7 @@ devices_same s f k devices same old = record {
 }
 
 -- a device was asked at its endpoint e what this transfer asks, which halts none, and gave these replies
-module _ (s : Scene) (good : IsWellFormed s) (f : Progress) (devices : List Scripted) (old : ShowsDevices s f devices) (e : ℕ) (near : e < ends_of s)
+module _ (s : Scene) (good : IsWellFormed s) (asked : ℕ → List Question) (devices : List Scripted) (old : ShowsDevices s asked devices) (e : ℕ) (near : e < ends_of s)
     (start : Transfer) (asked_there : asked_at (shape_at s e) ≡ (shape_at s e).address) (tame : is_raw_at s (shape_at s e).device ≡ false → sets_halt (question_of (shape_at s e) start) ≡ false)
     (x : Scripted) (at : slice_get devices (shape_at s e).device ≡ Some x) (t now : Transfer) (same : is_control (shape_at s e).kind ≡ true → question_of (shape_at s e) t ≡ question_of (shape_at s e) start)
     (more : List Reply) (y : Scripted) (gave : Gave Replied (shape_at s e) t x more now y) where
@@ -79,7 +78,7 @@ module _ (s : Scene) (good : IsWellFormed s) (f : Progress) (devices : List Scri
   abbrev a : ℕ
   a = (shape_at s e).address
 
-  abbrev o : ShowsDevice s f d x
+  abbrev o : ShowsDevice s asked d x
   o = old.each d x at
 
   -- a control transfer asks one question, and none asks for a halt of a device of a class
@@ -115,7 +114,7 @@ module _ (s : Scene) (good : IsWellFormed s) (f : Progress) (devices : List Scri
   script_is : script_at o.device.script a ≡ script_of s e
   script_is = ap (script_in a) (sym o.at)
 
-  numbered : is_ruled s e ≡ false → more ≡ replies_from (script_of s e) (length (asked_now s f e)) (length next)
+  numbered : is_ruled s e ≡ false → more ≡ replies_from (script_of s e) (length (asked e)) (length next)
   numbered is = heard.replies ∙ (go (is_raw_at s d) refl ∙ (λ i. replies_from (script_is i) (o.counts e near refl is i) ((long ∙ sym long_next) i)))
     where
       go : (b : Bool) → is_raw_at s d ≡ b → answers o.device.script a o.calls questions ≡ replies_from (script_at o.device.script a) (length (questions_at a o.calls)) (length questions)
@@ -123,44 +122,44 @@ module _ (s : Scene) (good : IsWellFormed s) (f : Progress) (devices : List Scri
       go false other = unhalted_answers o.device.script a (packets_at s e is other) o.calls questions (o.unhalted other) (tame_all other)
 
   abbrev before : List Call
-  before = heard_before s d ++ map (call_of 0) (asked_now s f e)
+  before = heard_before s d ++ map (call_of 0) (asked e)
 
   ruled : is_ruled s e ≡ true → more ≡ answers_from (slice_get s.devices d) before next
   ruled is = heard.replies ∙ (ap (λ (b : ℕ). answers o.device.script b o.calls questions) (ruled_at s e is).1
-      ∙ (ruled_answers o.device o.calls before questions (o.rules e near refl is ∙ sym (asked_here 0 (heard_before s d) (asked_now s f e)))
+      ∙ (ruled_answers o.device o.calls before questions (o.rules e near refl is ∙ sym (asked_here 0 (heard_before s d) (asked e)))
       ∙ (λ i. answers_from (sym o.at i) before (ruled_next is i))))
 
   -- they were those that were due
-  pub replies_due : more ≡ next_due s e (asked_now s f e) next
+  pub replies_due : more ≡ next_due s e (asked e) next
   replies_due = go (is_ruled s e) refl
     where
-      go : (b : Bool) → is_ruled s e ≡ b → more ≡ next_due s e (asked_now s f e) next
-      go true is = ruled is ∙ sym (ap (λ b. cond b (answers_from (slice_get s.devices d) before next) (replies_from (script_of s e) (length (asked_now s f e)) (length next))) is)
-      go false is = numbered is ∙ sym (ap (λ b. cond b (answers_from (slice_get s.devices d) before next) (replies_from (script_of s e) (length (asked_now s f e)) (length next))) is)
+      go : (b : Bool) → is_ruled s e ≡ b → more ≡ next_due s e (asked e) next
+      go true is = ruled is ∙ sym (ap (λ b. cond b (answers_from (slice_get s.devices d) before next) (replies_from (script_of s e) (length (asked e)) (length next))) is)
+      go false is = numbered is ∙ sym (ap (λ b. cond b (answers_from (slice_get s.devices d) before next) (replies_from (script_of s e) (length (asked e)) (length next))) is)
 
-  -- a progress with what was asked
-  module _ (k : Progress) (here : asked_now s k e ≡ asked_now s f e ++ next) (elsewhere : (c : ℕ) → c ≢ e → asked_now s k c ≡ asked_now s f c) where
+  -- what was asked then
+  module _ (then_asked : ℕ → List Question) (here : then_asked e ≡ asked e ++ next) (elsewhere : (c : ℕ) → c ≢ e → then_asked c ≡ asked c) where
     abbrev calls : List Call
     calls = o.calls ++ calls_at a questions
 
-    counted_here : is_ruled s e ≡ false → length (questions_at a calls) ≡ length (asked_now s k e)
+    counted_here : is_ruled s e ≡ false → length (questions_at a calls) ≡ length (then_asked e)
     counted_here is = ap (λ l. length l) (asked_here a o.calls questions) ∙ (length-append (questions_at a o.calls) questions
-        ∙ ((λ i. o.counts e near refl is i + (long ∙ sym long_next) i) ∙ (sym (length-append (asked_now s f e) next) ∙ ap (λ l. length l) (sym here))))
+        ∙ ((λ i. o.counts e near refl is i + (long ∙ sym long_next) i) ∙ (sym (length-append (asked e) next) ∙ ap (λ l. length l) (sym here))))
 
-    ruled_here : is_ruled s e ≡ true → questions_at 0 calls ≡ questions_at 0 (heard_before s d) ++ asked_now s k e
+    ruled_here : is_ruled s e ≡ true → questions_at 0 calls ≡ questions_at 0 (heard_before s d) ++ then_asked e
     ruled_here is = ap (λ (b : ℕ). questions_at 0 (o.calls ++ calls_at b questions)) (ruled_at s e is).1 ∙ (asked_here 0 o.calls questions
-        ∙ ((λ i. o.rules e near refl is i ++ ruled_next is i) ∙ (append_assoc (questions_at 0 (heard_before s d)) (asked_now s f e) next
+        ∙ ((λ i. o.rules e near refl is i ++ ruled_next is i) ∙ (append_assoc (questions_at 0 (heard_before s d)) (asked e) next
         ∙ ap (λ l. questions_at 0 (heard_before s d) ++ l) (sym here))))
 
-    counted : (c : ℕ) → c < ends_of s → (shape_at s c).device ≡ d → is_ruled s c ≡ false → length (questions_at (shape_at s c).address calls) ≡ length (asked_now s k c)
+    counted : (c : ℕ) → c < ends_of s → (shape_at s c).device ≡ d → is_ruled s c ≡ false → length (questions_at (shape_at s c).address calls) ≡ length (then_asked c)
     counted c l own is = dite (ℕ_discrete c e)
-        (λ (one : c ≡ e). subst (λ (c : ℕ). length (questions_at (shape_at s c).address calls) ≡ length (asked_now s k c)) (sym one) (counted_here (ap (is_ruled s) (sym one) ∙ is)))
+        (λ (one : c ≡ e). subst (λ (c : ℕ). length (questions_at (shape_at s c).address calls) ≡ length (then_asked c)) (sym one) (counted_here (ap (is_ruled s) (sym one) ∙ is)))
         (λ off. ap (λ l. length l) (asked_elsewhere (shape_at s c).address a (λ one. off (ends_apart s good c e l near own (sym one))) o.calls questions)
         ∙ (o.counts c l own is ∙ ap (λ l. length l) (sym (elsewhere c off))))
 
-    ruled_too : (c : ℕ) → c < ends_of s → (shape_at s c).device ≡ d → is_ruled s c ≡ true → questions_at 0 calls ≡ questions_at 0 (heard_before s d) ++ asked_now s k c
+    ruled_too : (c : ℕ) → c < ends_of s → (shape_at s c).device ≡ d → is_ruled s c ≡ true → questions_at 0 calls ≡ questions_at 0 (heard_before s d) ++ then_asked c
     ruled_too c l own is = dite (ℕ_discrete c e)
-        (λ (one : c ≡ e). subst (λ (c : ℕ). questions_at 0 calls ≡ questions_at 0 (heard_before s d) ++ asked_now s k c) (sym one) (ruled_here (ap (is_ruled s) (sym one) ∙ is)))
+        (λ (one : c ≡ e). subst (λ (c : ℕ). questions_at 0 calls ≡ questions_at 0 (heard_before s d) ++ then_asked c) (sym one) (ruled_here (ap (is_ruled s) (sym one) ∙ is)))
         (λ off. asked_elsewhere 0 a (λ zero. off (ends_apart s good c e l near own ((ruled_at s c is).1 ∙ sym zero))) o.calls questions
         ∙ (o.rules c l own is ∙ ap (λ l. questions_at 0 (heard_before s d) ++ l) (sym (elsewhere c off))))
 
@@ -168,10 +167,10 @@ module _ (s : Scene) (good : IsWellFormed s) (f : Progress) (devices : List Scri
     still_unhalted other = All-append (λ (c : Call). sets_halt c.question ≡ false) o.calls (calls_at a questions) (o.unhalted other)
         (All-map (λ (c : Call). sets_halt c.question ≡ false) (call_of a) questions (tame_all other))
 
-    asked_shown : ShowsDevice s k d y
+    asked_shown : ShowsDevice s then_asked d y
     asked_shown = record { device = o.device; at = o.at; calls = calls; stands = heard.stands; counts = counted; rules = ruled_too; unhalted = still_unhalted }
 
-    other_shown : (b : ℕ) (z : Scripted) → b ≢ d → ShowsDevice s f b z → ShowsDevice s k b z
+    other_shown : (b : ℕ) (z : Scripted) → b ≢ d → ShowsDevice s asked b z → ShowsDevice s then_asked b z
     other_shown b z off p =
         let apart : (c : ℕ) → (shape_at s c).device ≡ b → c ≢ e = λ c own same. off (sym own ∙ ap (λ (c : ℕ). (shape_at s c).device) same) in record {
           device = p.device;
@@ -184,8 +183,8 @@ module _ (s : Scene) (good : IsWellFormed s) (f : Progress) (devices : List Scri
         }
 
     -- the devices show it
-    pub devices_asked : (new : List Scripted) → new ≡ slice_set devices d y → ShowsDevices s k new
+    pub devices_asked : (new : List Scripted) → new ≡ slice_set devices d y → ShowsDevices s then_asked new
     devices_asked new is = record {
       all = ap (λ l. length l) is ∙ (length-set devices d y ∙ old.all);
-      each = each_set (ShowsDevice s f) (ShowsDevice s k) devices new d y is old.each asked_shown other_shown;
+      each = each_set (ShowsDevice s asked) (ShowsDevice s then_asked) devices new d y is old.each asked_shown other_shown;
     }

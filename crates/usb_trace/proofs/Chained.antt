@@ -1,5 +1,5 @@
 -- What a device replies, as a transfer is moved on.
-use Rattle.std.proofs.Common.{ℕ, suc, ◌≡◌, ◌≢◌, ◌<◌, cond, eqb, false, Some, List, [], ◌∷◌, ◌++◌, length, map, take, filter, replicate, refl, sym, ap, ◌∙◌, subst, arith, append_assoc, append-nil, add-one, eq-eqb, ne_eqb}
+use Rattle.std.proofs.Common.{ℕ, suc, ◌≡◌, ◌≢◌, cond, eqb, false, Some, List, [], ◌∷◌, ◌++◌, length, map, filter, replicate, refl, sym, ap, ◌∙◌, subst, append_assoc, append-nil, add-one, eq-eqb, ne_eqb}
 use Rattle.std.specs.List.{All}
 use Rattle.std.proofs.lemmas.List.{map-append}
 use Rattle.std.proofs.lemmas.List.Elements.{All-nil, All-head, All-tail, All-push, filter-append}
@@ -7,12 +7,10 @@ use Rattle.usb_machine.specs.declared.layout.Shape.{Shape}
 use Rattle.usb_machine.specs.declared.transfer.Transfer.{Transfer}
 use Rattle.usb_xfer.specs.Direction.{asked_at}
 use Rattle.usb_xfer.specs.Replies.{Reply, Question}
-use Rattle.usb_xfer.specs.declared.packet.Step.{Step}
-use Rattle.usb_xfer.specs.declared.packet.Step.TheVariants.{More}
 use Rattle.usb_xfer.specs.declared.script.Kind.TheVariants.{Raw}
 use Rattle.usb_xfer.specs.declared.script.DeviceScript.{DeviceScript}
-use Rattle.usb_xfer.specs.Moved.{moved_state, IsWhole, question_of, reply_moves}
-use Rattle.usb_xfer.specs.On.{Gave, nothing, one_more, Stops}
+use Rattle.usb_xfer.specs.Moved.{question_of, reply_moves}
+use Rattle.usb_xfer.specs.On.{Gave, nothing, one_more}
 use Rattle.usb_device.specs.declared.scripted.Scripted.{Scripted}
 use Rattle.usb_device.specs.Items.{script_at}
 use Rattle.usb_device.specs.Rules.{first_state}
@@ -21,13 +19,9 @@ use Rattle.usb_device.specs.Laws.{sets_halt, NoneHalts, CountsCalls}
 use Rattle.usb_device.specs.Replied.{call_of, Replied}
 use Rattle.usb_device.proofs.Calls.{questions-snoc_here, count-snoc_here}
 use Rattle.usb_device.proofs.Counting.{raw_counts, unhalted_counts}
-use Rattle.usb_scene.specs.declared.scene.Scene.{Scene}
 use Rattle.usb_scene.specs.declared.scene.SceneDevice.{SceneDevice}
-use Rattle.usb_prepare.specs.Ends.{shape_at}
 use Rattle.usb_trace.specs.Script.{replies_from}
-use Rattle.usb_trace.specs.Due.{answers_from, next_due}
-use Rattle.usb_line.specs.Line.{Progress, asks, asked_so_far, GoesTo}
-use Rattle.usb_trace.proofs.Dues.{take-due}
+use Rattle.usb_trace.specs.Due.{answers_from}
 
 -- these questions, asked at one address
 abbrev pub calls_at : ℕ → List Question → List Call
@@ -136,13 +130,3 @@ module _ (script : DeviceScript) (shape : Shape) (t : Transfer) (d : Scripted) (
         replies = (λ i. old.replies i ++ one.due script before old.stands i ∷ []) ∙ sym (answers-snoc script a calls old.questions q);
         each = All-push Q old.questions q old.each (each_asked rs now mid g);
       }
-
--- what stops after these replies goes so far
-pub goes : (s : Scene) (f : Progress) (e : ℕ) (t now : Transfer) (more : List Reply) (step : Step) → more ≡ next_due s e (asked_so_far s f e t) (asks s e t (length more)) → 0 < length more
-    → Stops (shape_at s e) t (f.so_far e) more now step → GoesTo s f e t (length more) step
-goes s f e t now more step is some st = record {
-  some = some;
-  before = λ k p q. subst (λ l. moved_state (shape_at s e) t (f.so_far e ++ l) ≡ More) (ap (take k) is ∙ take-due s e (asked_so_far s f e t) (question_of (shape_at s e) t) k (length more) (omega arith)) (st.each k p q);
-  state = ap (λ l. moved_state (shape_at s e) t (f.so_far e ++ l)) (sym is) ∙ sym st.state;
-  whole = subst (λ l. IsWhole (shape_at s e) t (f.so_far e ++ l)) is st.whole;
-}

@@ -16,8 +16,7 @@ use Rattle.usb_prepare.specs.Ends.{shape_at}
 use Rattle.usb_prepare.specs.Layout.{urb_count, home}
 use Rattle.usb_class.specs.declared.owner.Owner.{Owner}
 use Rattle.usb_trace.specs.Plan.{owner_of}
-use Rattle.usb_line.specs.Between.{IsBare}
-use Rattle.usb_line.specs.Shows.{IsApt}
+use Rattle.usb_trace.specs.Devices.{IsBare, IsApt}
 use Rattle.usb_trace.proofs.Homes.{own_near, home_raw, home_asked}
 use Rattle.usb_trace.proofs.Owners.{own_unowned, owner_near}
 
