@@ -63,6 +63,7 @@ fn urb_rows(
     owners: &[Option<Owner>],
     homes: &[Option<u32>],
 ) -> Result<Vec<UrbRow>, AllocError>
+    requires good { IsWellFormed scene.now }
     requires owned { owners.now ≡ owners_of scene.now }
     requires homes { homes.now ≡ homes_of scene.now }
     ensures { IfOk result (λ urbs. urbs.items ≡ map (new_urb scene.now) (below (urb_count scene.now))) }
