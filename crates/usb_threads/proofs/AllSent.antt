@@ -14,7 +14,7 @@ use Rattle.usb_scene.specs.WellFormed.{IsWellFormed}
 use Rattle.usb_trace.specs.Plan.{machine_of}
 use Rattle.usb_trace.specs.Run.{Giveback, given_entries, episode_of, is_aside}
 use Rattle.usb_trace.proofs.Episodes.{episodes-append}
-use Rattle.usb_line.specs.Shows.{IsApt}
+use Rattle.usb_trace.specs.Devices.{IsApt}
 use Rattle.usb_line.proofs.Serving.{no_middle}
 use Rattle.usb_threads.specs.Apt.{MayHave, SendsApt, AreApt}
 use Rattle.usb_threads.specs.Serving.{of_givebacks, completion_entries, served_entries}

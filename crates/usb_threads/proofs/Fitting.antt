@@ -32,7 +32,7 @@ use Rattle.usb_trace.specs.Plan.{machine_of, owner_of, question_at}
 use Rattle.usb_trace.specs.Run.{Giveback, is_aside, submit_of, rest_entry, given_entries, handled_by, handler_entries, giveback_entries, moved_in, resent, episode_of}
 use Rattle.usb_trace.proofs.Episodes.{episodes-append}
 use Rattle.usb_trace.proofs.Homes.{home_shape}
-use Rattle.usb_line.specs.Shows.{IsApt}
+use Rattle.usb_trace.specs.Devices.{IsApt}
 use Rattle.usb_line.proofs.Lines.{in_pending_once}
 use Rattle.usb_line.proofs.Resending.{moved_fits}
 use Rattle.usb_threads.specs.Serving.{of_givebacks, completed_by, completion_entries, served_entries}

@@ -33,8 +33,8 @@ use Rattle.usb_trace.specs.Claims.{numbers_of}
 use Rattle.usb_trace.specs.Run.{CallRecord, Giveback, urbs_of, submit_of, killed_by, host_call_entries, call_entries, read_entries_by, read_entries, moved_in, resent, rest_entry, asked_entries, given_entries, is_aside, kills_of, seen_quiet, closing}
 use Rattle.usb_trace.proofs.AskedEach.{asked_each}
 use Rattle.usb_trace.proofs.Stills.{IsStill, AreStill, flags_still, unflags_still, marks_still}
-use Rattle.usb_line.specs.Shows.{IsApt}
-use Rattle.usb_line.proofs.Apt.{bare_apt}
+use Rattle.usb_trace.specs.Devices.{IsApt}
+use Rattle.usb_trace.proofs.Apt.{bare_apt}
 use Rattle.usb_line.proofs.OnInterface.{fresh_apt}
 use Rattle.usb_line.proofs.Posing.{asking_apt}
 use Rattle.usb_line.proofs.Resending.{resent_apt}

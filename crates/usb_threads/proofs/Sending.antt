@@ -11,7 +11,7 @@ use Rattle.usb_machine.specs.State.{accepted}
 use Rattle.usb_machine.specs.History.{sent_of, sent_after, Episode, ended_by, episodes_of, episodes_after}
 use Rattle.usb_machine.specs.Fresh.{Begins}
 use Rattle.usb_scene.specs.declared.scene.Scene.{Scene}
-use Rattle.usb_line.specs.Shows.{IsApt}
+use Rattle.usb_trace.specs.Devices.{IsApt}
 use Rattle.usb_threads.specs.Apt.{MayHave, SendsApt, AreApt}
 use Rattle.usb_threads.proofs.Gives.{gives_in}
 

@@ -5,7 +5,7 @@ use Rattle.usb_machine.specs.declared.event.Event.TheVariants.{Submit}
 use Rattle.usb_machine.specs.declared.transfer.Transfer.{Transfer}
 use Rattle.usb_machine.specs.declared.entry.Entry.{Entry}
 use Rattle.usb_scene.specs.declared.scene.Scene.{Scene}
-use Rattle.usb_line.specs.Shows.{IsApt}
+use Rattle.usb_trace.specs.Devices.{IsApt}
 
 -- URB u may have this transfer, if there is one
 abbrev pub MayHave : Scene → ℕ → Option Transfer → Type 0
