@@ -5,3 +5,4 @@ pub mod Seating
 pub mod Closed
 pub mod Begun
 pub mod Seats
+pub mod Turned

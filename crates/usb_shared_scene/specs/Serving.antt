@@ -4,6 +4,10 @@ use Rattle.usb_machine.specs.declared.entry.TheConstants.{SERVER}
 use Rattle.usb_machine.specs.History.{Machine, HasHome}
 use Rattle.usb_machine.specs.Fresh.{Known}
 use Rattle.usb_machine.specs.Tokens.{unused}
+use Rattle.usb_xfer.specs.Replies.{Reply}
+use Rattle.usb_device.specs.declared.scripted.Scripted.{Scripted}
+use Rattle.usb_serve.specs.declared.controller.EndRow.{EndRow}
+use Rattle.usb_side.specs.Went.{first_sent}
 use Rattle.usb_class.specs.declared.handlers.Handlers.{Handlers}
 use Rattle.usb_class.specs.Handlers.{asking_urbs}
 use Rattle.usb_scene.specs.declared.scene.Scene.{Scene}
@@ -14,6 +18,8 @@ use Rattle.usb_trace.specs.Plan.{machine_of}
 use Rattle.usb_trace.specs.Run.{Giveback}
 use Rattle.usb_trace.specs.GivebackRow.{IsReceived, acked_at}
 use Rattle.usb_trace.specs.Handlers.{AreHandlersOf}
+use Rattle.usb_threads.specs.Apt.{AreApt}
+use Rattle.usb_threads.specs.DueSoFar.{AreDueSoFar}
 
 module _ {P T : Type 0} where
   -- what the token's pass knows
@@ -44,9 +50,12 @@ pub record HaveReceived (s : Scene) (rounds : List Giveback) (ends : List EndRec
   pub all : length ends ≡ ends_of s
   pub each : (e : ℕ) (end : EndReceived) → slice_get ends e ≡ Some end → (end.shape ≡ shape_at s e) × IsReceived (acked_at s e rounds) end.received
 
--- all has come as far as these givebacks
-pub record IsAfter (s : Scene) (rounds : List Giveback) (handlers : Handlers) (ends : List EndReceived) : Type 0 where
+-- all has come as far as these givebacks: the handlers, what the endpoints acknowledged, and the first pending transfers with the
+-- replies that they had so far. If each transfer that was sent is one that its URB may have, these are the replies that were due, and
+-- the devices heard what was asked for them
+pub record IsAfter (s : Scene) (p : Known) (still : (ℕ → List Reply) → Type 0) (rows : List EndRow) (devices : List Scripted) (rounds : List Giveback) (handlers : Handlers) (ends : List EndReceived) : Type 0 where
   pub handlers : AreHandlersOf s rounds handlers
   pub received : HaveReceived s rounds ends
-  -- what the devices have heard, and the replies of the pending transfers so far
-  pub devices : Unit {0}
+  pub so : ℕ → List Reply
+  pub so_far : still so
+  pub due : AreApt s p.seen → AreDueSoFar s rounds (first_sent p.seen rows) so devices
