@@ -5,6 +5,8 @@ use Rattle.usb_types.specs.declared.errno.Code.{Code}
 use Rattle.usb_types.specs.declared.errno.Code.TheVariants.{Zero, Fault}
 use Rattle.usb_types.specs.declared.urb.UrbId.{UrbId}
 use Rattle.usb_types.specs.declared.urb.Action.TheVariants as action
+use Rattle.usb_machine.specs.declared.entry.TheConstants.{SERVER}
+use Rattle.usb_machine.specs.declared.entry.Entry.{Entry}
 use Rattle.usb_machine.specs.declared.layout.Shape.{Shape}
 use Rattle.usb_machine.specs.declared.transfer.Transfer.{Transfer}
 use Rattle.usb_machine.specs.State.{is_zero}
@@ -19,10 +21,11 @@ use Rattle.usb_class.specs.Handlers.{action_by, Completes, Asks, Unasks}
 use Rattle.usb_class.specs.Handler.{window_by}
 use Rattle.usb_scene.specs.declared.scene.Scene.{Scene}
 use Rattle.usb_scene.specs.WellFormed.{IsWellFormed}
-use Rattle.usb_prepare.specs.Layout.{urb_count}
+use Rattle.usb_prepare.specs.Ends.{shape_at}
+use Rattle.usb_prepare.specs.Layout.{home, urb_count}
 use Rattle.usb_trace.specs.declared.rows.Outcome.TheVariants as outcome
 use Rattle.usb_trace.specs.Plan.{owner_of, machine_of, question_at, DriverQuestion}
-use Rattle.usb_trace.specs.Run.{Giveback, resent_as, may_again, handled_by}
+use Rattle.usb_trace.specs.Run.{Giveback, resent_as, may_again, submit_of, handled_by}
 use Rattle.usb_trace.specs.Handlers.{AreHandlersOf, Handles, asked_with, IsAskedAfter}
 use Rattle.usb_trace.proofs.Handling.{acts_as}
 use Rattle.usb_line.specs.Back.{CanPoseAny}
@@ -37,6 +40,11 @@ handles_in_run old new u status t _ _ _ (Did.again from len a _ done) = Handles.
 handles_in_run old new u status t _ _ _ (Did.silent mid _ done by) = Handles.silent mid new done by
 handles_in_run old new u status t _ _ _ (Did.asked mid _ v q done by) = Handles.asked mid new v q done by
 handles_in_run old new u status t _ _ _ (Did.refused mid asking _ v q errno done by un) = Handles.refused mid asking new v q errno done by un
+
+-- a submit has the same entries
+same_submit : (fault : Option Errno) (u : ℕ) (t : Transfer) (a : Code) → submits fault u t a ≡ submit_of fault SERVER u t a
+same_submit (Some errno) u t a = refl
+same_submit None u t a = refl
 
 -- an action that goes again has the window of what is sent again
 window_again : (o : Option Owner) (may : Bool) (status : Code) (t : Transfer) (from len : ℕ) → action.Again from len ≡ action_by o may status t → windowed from len t ≡ resent_as o status t
@@ -56,7 +64,8 @@ module _ (s : Scene) (rounds : List Giveback) (old : Handlers) (stands : AreHand
     asked_so v q a is =
         let can : CanPoseAny s u (Some (asked_with v q)) = subst (CanPoseAny s u) is (can_pose_any s good u) in
         ap (λ (shape : Option Shape). rests_as u t ∷ submits (fault_at shape q) v.0 q a) can.home
-        ∙ ap (λ (question : Option DriverQuestion). handled_by s u t (resent_as (owner_of s u) status t) question (outcome.Asked a)) (sym is)
+        ∙ (ap (λ (l : List Entry). rests_as u t ∷ l) (same_submit (fault_at (Some (shape_at s (home s v.0))) q) v.0 q a)
+        ∙ ap (λ (question : Option DriverQuestion). handled_by s u t (resent_as (owner_of s u) status t) question (outcome.Asked a)) (sym is))
 
     again_so : (again : Transfer) (a : Code) → again ≡ resent_as (owner_of s u) status t → fault_at (shape_of (machine_of s) u) again ≡ None
         → done_by (machine_of s) u t again None (served.Again a) ≡ handled_by s u t (resent_as (owner_of s u) status t) (question_at s u) (outcome.Again a)
