@@ -9,3 +9,5 @@ pub mod Closed
 pub mod Together
 pub mod Back
 pub mod Going
+pub mod WentDue
+pub mod DueSoFar

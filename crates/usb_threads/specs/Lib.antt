@@ -2,5 +2,6 @@ pub mod Passes
 pub mod MainPass
 pub mod Scripts
 pub mod Serving
+pub mod DueSoFar
 pub mod Promises
 pub mod NextCall
