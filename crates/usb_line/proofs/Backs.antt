@@ -46,7 +46,8 @@ use Rattle.usb_trace.proofs.CoresSeen.{times_push}
 use Rattle.usb_line.proofs.Givebacks.{handled_state, resubmits, IsApart, apart_any, posed, IsPut, accepted_idle, giveback_state, giveback_other, giveback_pending, giveback_sent, giveback_posed, giveback_posed_sent}
 use Rattle.usb_line.proofs.Calm.{calm_giveback, linked_giveback}
 use Rattle.usb_line.proofs.Marked.{first_at_home}
-use Rattle.usb_line.proofs.Returning.{left_at, left_else, rounds-push, asked_own, asked_else, asked_none, still_sent, first_apart}
+use Rattle.usb_line.proofs.Returning.{left_at, left_else, still_sent, first_apart}
+use Rattle.usb_trace.proofs.Dues.{rounds-push, asked-push_own, asked-push_else, asked-push_none}
 use Rattle.usb_line.proofs.Asked.{asked_idle, asked_same}
 use Rattle.usb_device.proofs.Lookups.{each_set}
 
@@ -254,7 +255,7 @@ module _ (s : Scene) (f : Progress) (r : Giveback) where
 
   -- the other endpoints
   rounds_else : (d : ℕ) → e ≢ d → rounds_at s d k.rounds ≡ rounds_at s d f.rounds
-  rounds_else d off = rounds-push s f r d ∙ (ap (λ b. rounds_at s d f.rounds ++ cond b (r ∷ []) []) (ne_eqb e d off) ∙ append-nil (rounds_at s d f.rounds))
+  rounds_else d off = rounds-push s f.rounds r d ∙ (ap (λ b. rounds_at s d f.rounds ++ cond b (r ∷ []) []) (ne_eqb e d off) ∙ append-nil (rounds_at s d f.rounds))
 
   pub end_else : (d : ℕ) (end : EndRow) → e ≢ d → ShowsEnd s f d end → ShowsEnd s k d end
   end_else d end off o = record {
@@ -265,15 +266,15 @@ module _ (s : Scene) (f : Progress) (r : Giveback) where
 
   -- and the URB's own
   rounds_own : rounds_at s e k.rounds ≡ rounds_at s e f.rounds ++ r ∷ []
-  rounds_own = rounds-push s f r e ∙ ap (λ b. rounds_at s e f.rounds ++ cond b (r ∷ []) []) (eq-eqb e e refl)
+  rounds_own = rounds-push s f.rounds r e ∙ ap (λ b. rounds_at s e f.rounds ++ cond b (r ∷ []) []) (eq-eqb e e refl)
 
   -- what its endpoint was asked: more by the giveback, where the URB was first
   pub asked_taken : is_first r.urb pending ≡ true → asked_now s k e ≡ asked_of s e f.rounds ++ asked_in s r
-  asked_taken first = asked_idle s k e (left_at s f r e refl ∙ ap (λ b. cond b [] (f.so_far e)) first) ∙ asked_own s f r e refl
+  asked_taken first = asked_idle s k e (left_at s f r e refl ∙ ap (λ b. cond b [] (f.so_far e)) first) ∙ asked-push_own s f.rounds r e refl
 
   -- and no more, where it was not, and had no replies
   pub asked_kept : CanGive s h r → IsLegal (machine_of s) h → is_first r.urb pending ≡ false → r.replies ≡ [] → (pending ≡ [] → f.so_far e ≡ []) → asked_now s k e ≡ asked_now s f e
-  asked_kept can legal off no_replies none = asked_same s f k e (asked_none s f r e refl no_replies) (left_at s f r e refl ∙ ap (λ b. cond b [] (f.so_far e)) off) none still
+  asked_kept can legal off no_replies none = asked_same s f k e (asked-push_none s f.rounds r e no_replies) (left_at s f r e refl ∙ ap (λ b. cond b [] (f.so_far e)) off) none still
     where
       still : (u : ℕ) (others : List ℕ) → pending ≡ u ∷ others → (more : List ℕ) × (pending_of (machine_of s) k.history e ≡ u ∷ more) × (sent_of k.history u ≡ sent_of h u)
       still u others first =
@@ -289,7 +290,7 @@ module _ (s : Scene) (f : Progress) (r : Giveback) where
 
   -- the other endpoints were asked no more
   pub asked_others : CanGive s h r → IsLegal (machine_of s) h → ((d : ℕ) → pending_of (machine_of s) h d ≡ [] → f.so_far d ≡ []) → (d : ℕ) → e ≢ d → asked_now s k d ≡ asked_now s f d
-  asked_others can legal none d off = asked_same s f k d (asked_else s f r d off) (left_else s f r d off) (none d)
+  asked_others can legal none d off = asked_same s f k d (asked-push_else s f.rounds r d off) (left_else s f r d off) (none d)
       (λ u others first. (others, pending_else d off ∙ first, still_sent s f r u (λ i. off (ap (home s) (sym i) ∙ sym (first_at_home (machine_of s) h d u others legal first))) (first_apart s f r can legal d u others first)))
 
   pub end_own : (end : EndRow) (t : Transfer) (received : Received) → ShowsEnd s f e end

@@ -37,11 +37,11 @@ use Rattle.usb_trace.proofs.AskedEach.{asked_each}
 use Rattle.usb_line.proofs.Givebacks.{CanGive, resubmits, IsApart, posed, put, queued_apart, giveback_follow, giveback_pass, giveback_pending, giveback_sent, giveback_posed_sent}
 use Rattle.usb_line.proofs.Calm.{calm_giveback}
 use Rattle.usb_line.proofs.Marked.{first_at_home}
-use Rattle.usb_trace.proofs.Dues.{replies-push}
+use Rattle.usb_trace.proofs.Dues.{nothing_due, asked-push_else, asked-push_none, replies-push}
 use Rattle.usb_trace.proofs.Episodes.{episodes-append, firsts-append}
 use Rattle.usb_trace.proofs.Moves.{moved_same}
 use Rattle.usb_line.proofs.Resending.{resent_setup}
-use Rattle.usb_line.proofs.Serving.{served, IsMoving, AreFirstGiven, SentBare, Serves, whole_none, due_none}
+use Rattle.usb_line.proofs.Serving.{served, IsMoving, AreFirstGiven, SentBare, Serves, whole_none}
 
 AreFirstGiven-push : (rounds : List Giveback) (bs : List Bool) (r : Giveback) (b : Bool) → AreFirstGiven rounds bs → (0 < length r.replies → b ≡ true) → AreFirstGiven (rounds ++ r ∷ []) (bs ++ b ∷ [])
 AreFirstGiven-push [] [] r b all one = (one, tt)
@@ -161,24 +161,8 @@ module _ (s : Scene) (f : Progress) (r : Giveback) where
   abbrev pub g : Progress
   g = given_back s f r
 
-  -- the giveback is one of its endpoint
-  pub rounds-push : (e : ℕ) → rounds_at s e g.rounds ≡ rounds_at s e f.rounds ++ cond (eqb (home s r.urb) e) (r ∷ []) []
-  rounds-push e = filter-append (λ (r : Giveback). eqb (home s r.urb) e) f.rounds (r ∷ [])
-
   pub still_sent : (v : ℕ) → v ≢ r.urb → IsApart v (posed s r) → sent_of g.history v ≡ sent_of h v
   still_sent v off apart = giveback_sent s h r v apart ∙ ap (λ b. cond (b && resubmits r.outcome) (Some (resent s r)) (sent_of h v)) (ne_eqb r.urb v (λ i. off (sym i)))
-
-  -- what its endpoint was asked is after it
-  pub asked_own : (e : ℕ) → home s r.urb ≡ e → asked_of s e g.rounds ≡ asked_of s e f.rounds ++ asked_in s r
-  asked_own e is = ap (flat_map (asked_in s)) (rounds-push e ∙ ap (λ b. rounds_at s e f.rounds ++ cond b (r ∷ []) []) (eq-eqb (home s r.urb) e is))
-      ∙ (flat_map-append (asked_in s) (rounds_at s e f.rounds) (r ∷ []) ∙ ap (λ l. asked_of s e f.rounds ++ l) (append-nil (asked_in s r)))
-
-  pub asked_else : (e : ℕ) → home s r.urb ≢ e → asked_of s e g.rounds ≡ asked_of s e f.rounds
-  asked_else e off = ap (flat_map (asked_in s)) (rounds-push e ∙ (ap (λ b. rounds_at s e f.rounds ++ cond b (r ∷ []) []) (ne_eqb (home s r.urb) e off) ∙ append-nil (rounds_at s e f.rounds)))
-
-  -- one without replies asked nothing
-  pub asked_none : (e : ℕ) → home s r.urb ≡ e → r.replies ≡ [] → asked_of s e g.rounds ≡ asked_of s e f.rounds
-  asked_none e is none = asked_own e is ∙ (ap (λ (l : List Reply). asked_of s e f.rounds ++ asks s (home s r.urb) r.sent (length l)) none ∙ append-nil (asked_of s e f.rounds))
 
   -- what is first pending at an endpoint is no question that is asked
   pub first_apart : CanGive s h r → IsLegal (machine_of s) h → (e u : ℕ) (others : List ℕ) → pending_of (machine_of s) h e ≡ u ∷ others → IsApart u (posed s r)
@@ -197,7 +181,7 @@ module _ (s : Scene) (f : Progress) (r : Giveback) where
     none_moving none = record {
       none = λ p. none;
       whole = λ u others t p q. whole_none (shape_at s (home s r.urb)) t (g.so_far (home s r.urb)) none;
-      due = λ u others t p q. due_none s (home s r.urb) (asked_of s (home s r.urb) g.rounds) t (g.so_far (home s r.urb)) none;
+      due = λ u others t p q. nothing_due s (home s r.urb) (asked_of s (home s r.urb) g.rounds) t (g.so_far (home s r.urb)) none;
     }
 
     -- an URB that is not first has had no replies
@@ -221,7 +205,7 @@ module _ (s : Scene) (f : Progress) (r : Giveback) where
           whole = λ u others t p q. (let x = sym p ∙ first in let urb : u ≡ v = cc in
               subst (λ l. IsWhole (shape_at s (home s r.urb)) t l) (sym keep) ((old.moving (home s r.urb)).whole v us t is (sym (still_sent v off (first_apart ready.can old.legal (home s r.urb) v us is)) ∙ (ap (sent_of g.history) (sym urb) ∙ q))));
           due = λ u others t p q. (let x = sym p ∙ first in let urb : u ≡ v = cc in
-              let rounds = asked_none (home s r.urb) refl (no_replies (ap (is_first r.urb) is ∙ ne_eqb v r.urb off)) in
+              let rounds = asked-push_none s f.rounds r (home s r.urb) (no_replies (ap (is_first r.urb) is ∙ ne_eqb v r.urb off)) in
               keep ∙ ((old.moving (home s r.urb)).due v us t is (sym (still_sent v off (first_apart ready.can old.legal (home s r.urb) v us is)) ∙ (ap (sent_of g.history) (sym urb) ∙ q))
               ∙ (λ i. next_due s (home s r.urb) (sym rounds i) (asks s (home s r.urb) t (length (sym keep i))))));
         })
@@ -242,7 +226,7 @@ module _ (s : Scene) (f : Progress) (r : Giveback) where
               (let first = sym same ∙ p in
               let apart : u ≢ r.urb = λ i. off (ap (home s) (sym i) ∙ sym (first_at_home (machine_of s) h e u others old.legal first)) in
               left_else e off ∙ ((old.moving e).due u others t first (sym (still_sent u apart (first_apart ready.can old.legal e u others first)) ∙ q)
-              ∙ (λ i. next_due s e (sym (asked_else e off) i) (asks s e t (length (sym (left_else e off) i))))));
+              ∙ (λ i. next_due s e (sym (asked-push_else s f.rounds r e off) i) (asks s e t (length (sym (left_else e off) i))))));
         })
 
     -- what is sent again has the setup packet of what was sent

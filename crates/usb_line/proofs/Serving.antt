@@ -30,7 +30,7 @@ use Rattle.usb_trace.proofs.Entries.{grows, legal_after}
 use Rattle.usb_line.proofs.Takes.{below_pass, below_follow, below_sent, pending_above, pending_below}
 use Rattle.usb_trace.proofs.Stills.{IsStill, AreStill}
 use Rattle.usb_line.proofs.Calm.{IsCalm, calm_takes}
-use Rattle.usb_trace.proofs.Dues.{due-append, due-none, length-due}
+use Rattle.usb_trace.proofs.Dues.{due-append, nothing_due, length-due}
 use Rattle.usb_trace.proofs.Episodes.{HaveNoGive, no_episode, no_first_given}
 
 -- the entries of the server that belong to its givebacks
@@ -101,10 +101,6 @@ no_middle (y ∷ before) x after e = cc
 pub whole_none : (shape : Shape) (t : Transfer) (l : List Reply) → l ≡ [] → IsWhole shape t l
 whole_none shape t l none = λ before r after e stop. absurd (no_middle before r after (sym none ∙ e))
 
--- no replies are due to no questions
-pub due_none : (s : Scene) (e : ℕ) (asked : List Question) (t : Transfer) (l : List Reply) → l ≡ [] → l ≡ next_due s e asked (asks s e t (length l))
-due_none s e asked t l none = none ∙ sym (ap (λ (k : List Reply). next_due s e asked (asks s e t (length k))) none ∙ due-none s e asked)
-
 takes_aside : (e : ℕ) (us : List ℕ) → served (takes e us) ≡ []
 takes_aside e [] = refl
 takes_aside e (u ∷ us) = takes_aside e us
@@ -140,7 +136,7 @@ longer_pending s f g e more old longer sent same rounds = go (pending_of (machin
     go [] is = let none = same ∙ old.none is in record {
       none = λ p. none;
       whole = λ u others t p q. whole_none (shape_at s e) t (g.so_far e) none;
-      due = λ u others t p q. due_none s e (asked_of s e g.rounds) t (g.so_far e) none;
+      due = λ u others t p q. nothing_due s e (asked_of s e g.rounds) t (g.so_far e) none;
     }
     go (v ∷ us) is = let first : pending_of (machine_of s) g.history e ≡ v ∷ (us ++ more) = longer ∙ ap (λ l. l ++ more) is in record {
       none = λ p. (let x = sym first ∙ p in cc);

@@ -40,7 +40,8 @@ use Rattle.usb_line.proofs.Givebacks.{CanGive, IsGated, IsSettled, giveback_pass
 use Rattle.usb_line.proofs.Calm.{is_finished}
 use Rattle.usb_line.proofs.Marked.{first_at_home, marked_at_home, first_unmarked}
 use Rattle.usb_line.proofs.Resending.{moved_fits}
-use Rattle.usb_line.proofs.Serving.{SentBare, Serves, takes_serve, waits_serve, longer_replies, whole_none, due_none}
+use Rattle.usb_line.proofs.Serving.{SentBare, Serves, takes_serve, waits_serve, longer_replies, whole_none}
+use Rattle.usb_trace.proofs.Dues.{nothing_due}
 use Rattle.usb_line.proofs.Returning.{CanReturn, back_serves}
 
 -- the part of a pass that is not the server's stays, and no call was made
@@ -201,11 +202,11 @@ module _ (s : Scene) (good : IsWellFormed s) (f : Progress) (old : Serves s f) (
   marked_replies = go pending refl
     where
       go : (us : List ℕ) → pending ≡ us → IsDue (cond (is_first u us) (f.so_far (home s u)) [])
-      go [] e = due_none s (home s u) (asked_of s (home s u) f.rounds) t [] refl
+      go [] e = nothing_due s (home s u) (asked_of s (home s u) f.rounds) t [] refl
       go (v ∷ us) e = at (eqb v u) refl
         where
           at : (b : Bool) → eqb v u ≡ b → IsDue (cond b (f.so_far (home s u)) [])
-          at false no_ = due_none s (home s u) (asked_of s (home s u) f.rounds) t [] refl
+          at false no_ = nothing_due s (home s u) (asked_of s (home s u) f.rounds) t [] refl
           at true here = (old.moving (home s u)).due u us t (e ∙ ap (λ w. w ∷ us) (eqb-true v u here)) is.transfer
 
   pub marked_serves : Serves s (given_back s f back)

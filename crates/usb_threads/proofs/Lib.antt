@@ -15,3 +15,5 @@ pub mod Back
 pub mod Going
 pub mod Handlers
 pub mod Given
+pub mod WentDue
+pub mod DueSoFar

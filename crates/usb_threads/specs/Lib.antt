@@ -3,6 +3,7 @@ pub mod MainPass
 pub mod Scripts
 pub mod Apt
 pub mod Serving
+pub mod DueSoFar
 pub mod Promises
 pub mod NextCall
 pub mod Words

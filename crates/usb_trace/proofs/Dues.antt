@@ -8,7 +8,9 @@ use Rattle.std.proofs.lemmas.List.Elements.{filter-append}
 use Rattle.std.proofs.lemmas.Grind.{flat_map-append}
 use mathlib.Core.Logic.{dite}
 use native.Mathlib.Decide.{ℕ_discrete}
+use Rattle.usb_machine.specs.declared.transfer.Transfer.{Transfer}
 use Rattle.usb_xfer.specs.Replies.{Reply, Question}
+use Rattle.usb_xfer.specs.Moved.{question_of}
 use Rattle.usb_device.specs.Device.{Call}
 use Rattle.usb_device.specs.Replied.{call_of}
 use Rattle.usb_scene.specs.declared.scene.Scene.{Scene}
@@ -18,7 +20,7 @@ use Rattle.usb_prepare.specs.Layout.{home}
 use Rattle.usb_trace.specs.Script.{replies_from}
 use Rattle.usb_trace.specs.Plan.{script_of}
 use Rattle.usb_trace.specs.Run.{Giveback, rounds_at, replies_in, asked_in, asked_of}
-use Rattle.usb_trace.specs.Due.{is_ruled, heard_before, answer_to, answers_from, next_due}
+use Rattle.usb_trace.specs.Due.{asks, is_ruled, heard_before, answer_to, answers_from, next_due}
 use Rattle.usb_trace.proofs.Scripts.{replies-append, length-replies}
 
 module _ (device : Option SceneDevice) where
@@ -78,28 +80,49 @@ module _ (s : Scene) (e : ℕ) where
       let long : k ≡ length front = sym (length-due asked (replicate k q) ∙ length-replicate k q) in
       (λ i. take (long i) (parts i)) ∙ take-append_seam front back
 
--- the replies of each endpoint are still those that were due first after one giveback more, whose replies are due next
-module _ (s : Scene) (rounds : List Giveback) (r : Giveback) (old : (e : ℕ) → replies_in (rounds_at s e rounds) ≡ next_due s e [] (asked_of s e rounds))
-    (due : r.replies ≡ next_due s (home s r.urb) (asked_of s (home s r.urb) rounds) (asked_in s r)) where
+-- and so are none, where a transfer has none
+pub nothing_due : (s : Scene) (e : ℕ) (asked : List Question) (t : Transfer) (l : List Reply) → l ≡ [] → l ≡ next_due s e asked (asks s e t (length l))
+nothing_due s e asked t l none = subst (λ (l : List Reply). l ≡ next_due s e asked (asks s e t (length l))) (sym none) (sym (due-none s e asked))
+
+-- a transfer asks once more for each reply more
+pub asks-append : (s : Scene) (e : ℕ) (t : Transfer) (old more : List Reply) → asks s e t (length (old ++ more)) ≡ asks s e t (length old) ++ asks s e t (length more)
+asks-append s e t old more = ap (asks s e t) (length-append old more) ∙ sym (replicate-append-replicate (length old) (length more) (question_of (shape_at s e) t))
+
+-- one giveback more is one of its own endpoint
+module _ (s : Scene) (rounds : List Giveback) (r : Giveback) where
   abbrev longer : List Giveback
   longer = rounds ++ r ∷ []
 
-  at : (e : ℕ) → rounds_at s e longer ≡ rounds_at s e rounds ++ cond (eqb (home s r.urb) e) (r ∷ []) []
-  at e = filter-append (λ (r : Giveback). eqb (home s r.urb) e) rounds (r ∷ [])
+  pub rounds-push : (e : ℕ) → rounds_at s e longer ≡ rounds_at s e rounds ++ cond (eqb (home s r.urb) e) (r ∷ []) []
+  rounds-push e = filter-append (λ (r : Giveback). eqb (home s r.urb) e) rounds (r ∷ [])
 
   at_own : (e : ℕ) → home s r.urb ≡ e → rounds_at s e longer ≡ rounds_at s e rounds ++ r ∷ []
-  at_own e is = at e ∙ ap (λ b. rounds_at s e rounds ++ cond b (r ∷ []) []) (eq-eqb (home s r.urb) e is)
+  at_own e is = rounds-push e ∙ ap (λ b. rounds_at s e rounds ++ cond b (r ∷ []) []) (eq-eqb (home s r.urb) e is)
 
   at_else : (e : ℕ) → home s r.urb ≢ e → rounds_at s e longer ≡ rounds_at s e rounds
-  at_else e off = at e ∙ (ap (λ b. rounds_at s e rounds ++ cond b (r ∷ []) []) (ne_eqb (home s r.urb) e off) ∙ append-nil (rounds_at s e rounds))
+  at_else e off = rounds-push e ∙ (ap (λ b. rounds_at s e rounds ++ cond b (r ∷ []) []) (ne_eqb (home s r.urb) e off) ∙ append-nil (rounds_at s e rounds))
 
-  pub replies-push : (e : ℕ) → replies_in (rounds_at s e longer) ≡ next_due s e [] (asked_of s e longer)
-  replies-push e = dite (ℕ_discrete (home s r.urb) e)
-      (λ is.
-      let joined : replies_in (rounds_at s e longer) ≡ replies_in (rounds_at s e rounds) ++ r.replies
-      = ap replies_in (at_own e is) ∙ (flat_map-append (λ (r : Giveback). r.replies) (rounds_at s e rounds) (r ∷ []) ∙ ap (λ l. replies_in (rounds_at s e rounds) ++ l) (append-nil r.replies)) in
-      let asked : asked_of s e longer ≡ asked_of s e rounds ++ asked_in s r
-      = ap (flat_map (asked_in s)) (at_own e is) ∙ (flat_map-append (asked_in s) (rounds_at s e rounds) (r ∷ []) ∙ ap (λ l. asked_of s e rounds ++ l) (append-nil (asked_in s r))) in
-      let here : r.replies ≡ next_due s e (asked_of s e rounds) (asked_in s r) = subst (λ (e : ℕ). r.replies ≡ next_due s e (asked_of s e rounds) (asked_in s r)) is due in
-      joined ∙ ((λ i. old e i ++ here i) ∙ (sym (due-append s e [] (asked_of s e rounds) (asked_in s r)) ∙ ap (next_due s e []) (sym asked))))
-      (λ off. ap replies_in (at_else e off) ∙ (old e ∙ ap (λ (l : List Giveback). next_due s e [] (flat_map (asked_in s) l)) (sym (at_else e off))))
+  -- what its endpoint was asked is after it
+  pub asked-push_own : (e : ℕ) → home s r.urb ≡ e → asked_of s e longer ≡ asked_of s e rounds ++ asked_in s r
+  asked-push_own e is = ap (flat_map (asked_in s)) (at_own e is)
+      ∙ (flat_map-append (asked_in s) (rounds_at s e rounds) (r ∷ []) ∙ ap (λ l. asked_of s e rounds ++ l) (append-nil (asked_in s r)))
+
+  pub asked-push_else : (e : ℕ) → home s r.urb ≢ e → asked_of s e longer ≡ asked_of s e rounds
+  asked-push_else e off = ap (flat_map (asked_in s)) (at_else e off)
+
+  -- one without replies asked nothing
+  pub asked-push_none : (e : ℕ) → r.replies ≡ [] → asked_of s e longer ≡ asked_of s e rounds
+  asked-push_none e none = dite (ℕ_discrete (home s r.urb) e)
+      (λ is. asked-push_own e is ∙ (ap (λ (l : List Reply). asked_of s e rounds ++ asks s (home s r.urb) r.sent (length l)) none ∙ append-nil (asked_of s e rounds)))
+      (asked-push_else e)
+
+  -- the replies of each endpoint are still those that were due first after one giveback more, whose replies are due next
+  module _ (old : (e : ℕ) → replies_in (rounds_at s e rounds) ≡ next_due s e [] (asked_of s e rounds)) (due : r.replies ≡ next_due s (home s r.urb) (asked_of s (home s r.urb) rounds) (asked_in s r)) where
+    pub replies-push : (e : ℕ) → replies_in (rounds_at s e longer) ≡ next_due s e [] (asked_of s e longer)
+    replies-push e = dite (ℕ_discrete (home s r.urb) e)
+        (λ is.
+        let joined : replies_in (rounds_at s e longer) ≡ replies_in (rounds_at s e rounds) ++ r.replies
+        = ap replies_in (at_own e is) ∙ (flat_map-append (λ (r : Giveback). r.replies) (rounds_at s e rounds) (r ∷ []) ∙ ap (λ l. replies_in (rounds_at s e rounds) ++ l) (append-nil r.replies)) in
+        let here : r.replies ≡ next_due s e (asked_of s e rounds) (asked_in s r) = subst (λ (e : ℕ). r.replies ≡ next_due s e (asked_of s e rounds) (asked_in s r)) is due in
+        joined ∙ ((λ i. old e i ++ here i) ∙ (sym (due-append s e [] (asked_of s e rounds) (asked_in s r)) ∙ ap (next_due s e []) (sym (asked-push_own e is)))))
+        (λ off. ap replies_in (at_else e off) ∙ (old e ∙ ap (λ (l : List Giveback). next_due s e [] (flat_map (asked_in s) l)) (sym (at_else e off))))

@@ -1,5 +1,5 @@
 -- What the devices of a run heard, and which transfers an URB may have.
-use Rattle.std.specs.Prelude.{ℕ, ◌≡◌, ◌<◌, Bool, true, false, List, ◌++◌, length, slice_get, Option, Some, None}
+use Rattle.std.specs.Prelude.{ℕ, ◌≡◌, ◌<◌, true, false, List, ◌++◌, length, slice_get, Option, Some, None}
 use Rattle.usb_machine.specs.declared.transfer.Transfer.{Transfer}
 use Rattle.usb_xfer.specs.Direction.{asked_at}
 use Rattle.usb_xfer.specs.Moved.{question_of}
