@@ -7,12 +7,17 @@ use Rattle.usb_machine.specs.Parts.{part_of, keeps}
 use Rattle.usb_machine.specs.Legal.{IsLegal}
 use Rattle.usb_machine.specs.Laws.{submits, gives, bit, TakesTurns, IsKept}
 use Rattle.usb_machine.specs.Fresh.{Known}
-use Rattle.usb_machine.specs.Tokens.{IsClosed, unused}
+use Rattle.usb_machine.specs.Tokens.{IsClosed, AreAll, unused}
 use Rattle.usb_machine.proofs.Prefixes.{legal_beginning}
 use Rattle.usb_machine.proofs.Turns.{takes_turns}
 use Rattle.usb_machine.proofs.Kept.{is_kept}
+use Rattle.usb_host_cases.proofs.Ends.{four_numbers}
 use Rattle.usb_side_cases.specs.Raced.{SubmittedTimes, KilledAndPoisoned, KilledThen, kills_of}
 use Rattle.usb_machine.specs.Calls.{poison_entries}
+
+-- the four numbers are those of all passes
+pub four_are_all : (g : Machine) (s hub a b : Known) → g.passes ≡ 4 → s.number ≡ 0 → hub.number ≡ 1 → a.number ≡ 2 → b.number ≡ 3 → AreAll g (s ∷ hub ∷ a ∷ b ∷ [])
+four_are_all g s hub a b four ss hh aa bb k below = four_numbers s hub a b ss hh aa bb k (subst (λ n. k < n) four below)
 
 -- every beginning takes turns
 pub turns_before : (g : Machine) (h : List Entry) (u : ℕ) → IsLegal g h → (before behind : List Entry) → h ≡ before ++ behind → TakesTurns before u

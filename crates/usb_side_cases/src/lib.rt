@@ -17,11 +17,11 @@ mod tests;
 mod turns;
 
 pub use alone::{Served, serve_two};
-pub use ends::{Raced, raced_and_closed};
+pub use ends::{Raced, race_by_turns};
 pub use killer::kill_often;
 pub use layouts::{one_urb, two_urbs};
 pub use seldom::Seldom;
 pub use server::{serve_all, serve_until};
 pub use stepping::{step_until, turn_until};
 pub use submitter::{Tally, submit_often};
-pub use turns::{race_by_turns, serve_by_turns};
+pub use turns::serve_by_turns;

@@ -4,11 +4,12 @@ ghost use Rattle.usb_types.specs.declared.errno.Code.{Code};
 ghost use Rattle.usb_machine.specs.History.{HasHome};
 ghost use Rattle.usb_machine.specs.Parts.{held_of, keeps};
 ghost use Rattle.usb_machine.specs.HostCalls.{IsUrb};
-ghost use Rattle.usb_serve.specs.Held.{Agrees};
-ghost use Rattle.usb_side.specs.Side.{IsWholeSide, side_knows};
+ghost use Rattle.usb_turn_host.specs.Turning.{known_of};
+ghost use Rattle.usb_side_cases.specs.Here.{machine_at, IsHere, IsServerHere, AgreesHere};
 ghost use Rattle.usb_side_cases.specs.Raced.{sum_of, SubmittedTimes, KilledTimes, KilledAndPoisoned};
 
 use crate::killer::kill_often;
+use crate::seldom::Seldom;
 use crate::server::serve_until;
 use crate::submitter::{Tally, submit_often};
 use std::alloc::Global;
@@ -17,10 +18,11 @@ use std::sync::atomic::AtomicBool;
 use std::sync::atomic::Ordering::SeqCst;
 use std::thread::{Threads, join};
 use usb_cancel::poison;
-use usb_machine::{Host, Serves};
+use usb_machine::Host;
 use usb_serve::Controller;
+use usb_turn::TurnPass;
+use usb_turn_host::{Stock, TurnHost, TurnServer};
 use usb_types::UrbId;
-use usb_xfer::Device;
 
 /// The submits, by a pass that is handed on.
 fn submit_as<H: Host, R: Wait>(
@@ -120,40 +122,41 @@ fn use_and_end<H: Host + Sync, R: Threads + Wait + Sync>(
     (first, b)
 }
 
-/// The submitter, the killer and the server. Each kill waits for the server, which ends when the other two have.
-pub(crate) fn race_all<H: Serves + Sync, R: Threads + Wait + Sync, D: Device + Drop>(
+/// The submitter, the killer and the server, each in a thread of its own. Each kill waits for the server, which ends when
+/// the other two have.
+pub(crate) fn race_all<R: Threads + Wait + Sync>(
     rt: &R,
     alloc: Global,
-    host: &H,
-    server: H::Server,
-    controller: Controller<D>,
-    a: H::Pass,
-    b: H::Pass,
+    host: &TurnHost,
+    server: TurnServer,
+    controller: Controller<Seldom>,
+    a: TurnPass<Stock>,
+    b: TurnPass<Stock>,
     urb: UrbId,
     times: u32,
-) -> (((H::Pass, Tally), H::Pass), (H::Server, u64))
-    requires agrees { Agrees (side_knows (H.machine host.now) (H.known (H.Server.own server)) (H.Server.given server) (IsWholeSide (H.machine host.now) (H.is_of host.now (H.Server.own server)) (H.known (H.Server.own server)) (H.Server.pending server) (H.Server.given server) (H.Server.has_room server)) (H.is_settled host.now server)) controller }
-    requires here { H.is_of host.now a × H.is_of host.now b }
-    requires home { HasHome (H.machine host.now) urb.0 }
-    requires urb { IsUrb (H.machine host.now) urb.0 }
-    requires room { (held_of (H.known b).mine urb.0).rejects < 255 }
-    ensures here { H.is_of host.now result.0.0.0 × H.is_of host.now result.0.1 }
-    ensures whole { IsWholeSide (H.machine host.now) (H.is_of host.now (H.Server.own result.1.0)) (H.known (H.Server.own result.1.0)) (H.Server.pending result.1.0) (H.Server.given result.1.0) (H.Server.has_room result.1.0) }
-    ensures submitted { SubmittedTimes urb.0 result.0.0.1.accepted (H.known a) (H.known result.0.0.0) }
+) -> (((TurnPass<Stock>, Tally), TurnPass<Stock>), (TurnServer, u64))
+    requires agrees { AgreesHere host.now server controller }
+    requires here { IsHere host.now a × IsHere host.now b }
+    requires home { HasHome (machine_at host.now) urb.0 }
+    requires urb { IsUrb (machine_at host.now) urb.0 }
+    requires room { (held_of b.mine urb.0).rejects < 255 }
+    ensures here { IsHere host.now result.0.0.0 × IsHere host.now result.0.1 }
+    ensures whole { IsServerHere host.now result.1.0 }
+    ensures submitted { SubmittedTimes urb.0 result.0.0.1.accepted (known_of a) (known_of result.0.0.0) }
     ensures sum { sum_of result.0.0.1 ≡ times }
-    ensures killed { KilledAndPoisoned urb.0 times (H.known b) (H.known result.0.1) }
-    ensures kept { keeps (H.known result.0.1).mine urb.0 ≡ true }
+    ensures killed { KilledAndPoisoned urb.0 times (known_of b) (known_of result.0.1) }
+    ensures kept { keeps result.0.1.mine urb.0 ≡ true }
 {
     let ended = AtomicBool::new(false);
     join(
         rt,
-        || -> ((H::Pass, Tally), H::Pass)
-            requires { H.is_of host.now a × H.is_of host.now b × HasHome (H.machine host.now) urb.0 × IsUrb (H.machine host.now) urb.0 × ((held_of (H.known b).mine urb.0).rejects < 255) }
-            ensures { H.is_of host.entry.now result.0.0 × H.is_of host.entry.now result.1 × SubmittedTimes urb.0 result.0.1.accepted (H.known a) (H.known result.0.0) × (sum_of result.0.1 ≡ times) × KilledAndPoisoned urb.0 times (H.known b) (H.known result.1) × (keeps (H.known result.1).mine urb.0 ≡ true) }
+        || -> ((TurnPass<Stock>, Tally), TurnPass<Stock>)
+            requires { IsHere host.now a × IsHere host.now b × HasHome (machine_at host.now) urb.0 × IsUrb (machine_at host.now) urb.0 × ((held_of b.mine urb.0).rejects < 255) }
+            ensures { IsHere host.entry.now result.0.0 × IsHere host.entry.now result.1 × SubmittedTimes urb.0 result.0.1.accepted (known_of a) (known_of result.0.0) × (sum_of result.0.1 ≡ times) × KilledAndPoisoned urb.0 times (known_of b) (known_of result.1) × (keeps result.1.mine urb.0 ≡ true) }
         { use_and_end(rt, alloc, host, a, b, urb, times, &ended) },
-        || -> (H::Server, u64)
-            requires { Agrees (side_knows (H.machine host.now) (H.known (H.Server.own server)) (H.Server.given server) (IsWholeSide (H.machine host.now) (H.is_of host.now (H.Server.own server)) (H.known (H.Server.own server)) (H.Server.pending server) (H.Server.given server) (H.Server.has_room server)) (H.is_settled host.now server)) controller }
-            ensures { IsWholeSide (H.machine host.entry.now) (H.is_of host.entry.now (H.Server.own result.0)) (H.known (H.Server.own result.0)) (H.Server.pending result.0) (H.Server.given result.0) (H.Server.has_room result.0) }
+        || -> (TurnServer, u64)
+            requires { AgreesHere host.now server controller }
+            ensures { IsServerHere host.entry.now result.0 }
         { serve_until(rt, host, server, controller, &ended) },
     )
 }

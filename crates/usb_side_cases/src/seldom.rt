@@ -1,9 +1,11 @@
 //! A device that replies seldom.
-ghost use Rattle.std.specs.Prelude.{◌≡◌};
+ghost use Rattle.std.specs.Prelude.{◌≡◌, IfOk, length};
 ghost use Rattle.std.proofs.Common.{arith};
 ghost use Rattle.usb_side_cases.specs.Raced.{IsNakOrAck};
 
+use std::alloc::{AllocError, Global};
 use usb_ctrl::Setup;
+use usb_types::Memory;
 use usb_xfer::{CtrlReply, Device, InReply, OutReply};
 
 /// A device that takes each fourth packet that it is sent, and answers Nak to all else.
@@ -39,4 +41,19 @@ impl Device for Seldom {
     fn used(&self) -> u64 {
         0
     }
+}
+
+fn one_seldom(alloc: Global) -> Result<Vec<Seldom>, AllocError>
+    ensures { IfOk result (λ v. length v.items ≡ 1) }
+{
+    let mut devices = Vec::with_capacity(alloc, 1)?;
+    devices.push(Seldom { asked: 0 })?;
+    Ok(devices)
+}
+
+/// One device.
+pub(crate) fn one_device(alloc: Global) -> Result<Vec<Seldom>, Memory>
+    ensures { IfOk result (λ v. length v.items ≡ 1) }
+{
+    Ok(one_seldom(alloc)?)
 }
