@@ -65,7 +65,7 @@ pub(crate) fn poison_and_kill<H: Host + Sync, R: Threads + Wait + Sync>(
 }
 
 /// Closes a host of two passes, which go back into the vector they came from.
-pub(crate) fn close_two<H: Opens>(
+pub fn close_two<H: Opens>(
     host: H,
     server: H::Server,
     hub: H::Hub,

@@ -10,6 +10,7 @@ mod opened;
 mod tests;
 mod turns;
 
+pub use closes::close_two;
 pub use kills::{kill_and_meet, kill_both};
 pub use many::poison_in_threads;
 pub use one::one_urb;

@@ -1,0 +1,3 @@
+pub mod Counting
+pub mod Killing
+pub mod Whole

@@ -1,0 +1,14 @@
+use Rattle.std.proofs.Common.{◌≡◌}
+use Rattle.usb_serve.specs.Held.{Agrees}
+use Rattle.usb_side.specs.Side.{IsWholeSide, side_knows}
+use Rattle.usb_side_cases.proofs.stepping.step_until.Given as goal
+
+abbrev pub invariant-loop-n : goal.invariant-loop-n
+invariant-loop-n g l =
+    let known = g.H.Host.known in
+    let own = g.H.Server.Token.own in
+    (l.side.host.now ≡ l.fn.host)
+    × Agrees
+    (side_knows (g.H.Host.machine l.side.host.now) (known (own l.side.server)) (g.H.Server.ServerToken.given l.side.server)
+    (IsWholeSide (g.H.Host.machine l.side.host.now) (g.H.Host.is_of l.side.host.now (own l.side.server)) (known (own l.side.server)) (g.H.Server.ServerToken.pending l.side.server) (g.H.Server.ServerToken.given l.side.server) (g.H.Server.ServerToken.has_room l.side.server))
+    (g.H.Serves.is_settled l.side.host.now l.side.server)) l.controller
