@@ -79,11 +79,11 @@ has_claimed g p q u t sound f rested =
     let last_is : e.last ≡ x = sym (last_of_one x e.last e.others e.entries) in
     let whole : q.seen ≡ (e.before ++ x ∷ []) ++ [] = e.ends ∙ (ap (λ y. e.before ++ y ∷ []) last_is ∙ sym (append-nil (e.before ++ x ∷ []))) in
     let grew : (f.grown.begins.more ≡ []) → ⊥ = λ none.
-        let same : q.seen ≡ p.seen = f.grown.begins.is ∙ (ap (λ l. p.seen ++ l) none ∙ append-nil p.seen) in
-        let mine : p.mine ≡ p.mine ++ x ∷ [] = sym sound.own ∙ ((λ j. part_of (sym same j) (sym f.grown.number j)) ∙ (f.sound.own ∙ f.grown.mine)) in
-        let long = ap (λ (l : List Entry). length l) mine in
-        let more = length-append p.mine (x ∷ []) in
-        omega arith in
+    let same : q.seen ≡ p.seen = f.grown.begins.is ∙ (ap (λ l. p.seen ++ l) none ∙ append-nil p.seen) in
+    let mine : p.mine ≡ p.mine ++ x ∷ [] = sym sound.own ∙ ((λ j. part_of (sym same j) (sym f.grown.number j)) ∙ (f.sound.own ∙ f.grown.mine)) in
+    let long = ap (λ (l : List Entry). length l) mine in
+    let more = length-append p.mine (x ∷ []) in
+    omega arith in
     let late : Begins e.before p.seen = ⊎_elim (λ (n : f.grown.begins.more ≡ []). absurd (grew n)) (λ (b : Begins e.before p.seen). b) (split_last p.seen f.grown.begins.more e.before e.last (sym e.ends ∙ f.grown.begins.is)) in
     subst (λ n. ClaimedSince p.seen q.seen n u t) (sym f.grown.number) record {
       claimed = record { before = e.before; behind = []; parts = whole; rested = rested e.before e.last e.ends };
