@@ -58,7 +58,7 @@ module _ (g : Machine) where
 
   EndSent-append : (es ds : List Episode) → EndSent es → EndSent ds → EndSent (es ++ ds)
   EndSent-append [] ds a b = b
-  EndSent-append (e ∷ es) ds a b = (a.0, (a.1, EndSent-append es ds a.2 b))
+  EndSent-append (e ∷ es) ds a b = (a.0, a.1, EndSent-append es ds a.2 b)
 
   pending_queued : (h : List Entry) → IsLegal g h → (u : ℕ) → 0 < times u (pending_of g h (home_of g u)) → (state_of h u).queued ≡ true
   pending_queued h legal u some = go (state_of h u).queued refl
@@ -68,7 +68,7 @@ module _ (g : Machine) where
       go false is = let a = in_pending_once g h (home_of g u) u (placed g u h legal) in let z = ap bit is in absurd (omega arith)
 
   ended_sent : (h : List Entry) → IsLegal g h → (p : ℕ) (e : Event) (a : Answer) → May g h p e → EndSent (ended_by h e a)
-  ended_sent h legal p (Give u) a may = let queued = pending_queued h legal u.0 may.1 in (queued_is_sent g u.0 h legal queued, (queued_has_home g u.0 h legal queued, tt))
+  ended_sent h legal p (Give u) a may = let queued = pending_queued h legal u.0 may.1 in (queued_is_sent g u.0 h legal queued, queued_has_home g u.0 h legal queued, tt)
   ended_sent h legal p _ a may = tt
 
   pub ends_sent : (h : List Entry) → IsLegal g h → EndSent (episodes_of h)
@@ -117,19 +117,19 @@ module _ (g : Machine) where
   -- and so does each of a pass, and of some of them
   part_carries : (p : ℕ) (xs : List Entry) → CarryEach xs → CarryEach (part_of xs p)
   part_carries p [] each = tt
-  part_carries p (x ∷ xs) each = go (eqb x.pass p)
+  part_carries p (x ∷ xs) each = go (eqb x.pass p) (part_carries p xs each.1)
     where
-      go : (b : Bool) → CarryEach (cond b (x ∷ part_of xs p) (part_of xs p))
-      go true = (each.0, part_carries p xs each.1)
-      go false = part_carries p xs each.1
+      go : (b : Bool) → CarryEach (part_of xs p) → CarryEach (cond b (x ∷ part_of xs p) (part_of xs p))
+      go true rest = (each.0, rest)
+      go false rest = rest
 
   kept_carry : (keeps : Entry → Bool) (xs : List Entry) → CarryEach xs → CarryEach (filter keeps xs)
   kept_carry keeps [] each = tt
-  kept_carry keeps (x ∷ xs) each = go (keeps x)
+  kept_carry keeps (x ∷ xs) each = go (keeps x) (kept_carry keeps xs each.1)
     where
-      go : (b : Bool) → CarryEach (cond b (x ∷ filter keeps xs) (filter keeps xs))
-      go true = (each.0, kept_carry keeps xs each.1)
-      go false = kept_carry keeps xs each.1
+      go : (b : Bool) → CarryEach (filter keeps xs) → CarryEach (cond b (x ∷ filter keeps xs) (filter keeps xs))
+      go true rest = (each.0, rest)
+      go false rest = rest
 
   -- the givebacks of a pass carry what they may
   pub givebacks_carry : (h : List Entry) → IsLegal g h → (p : ℕ) → CarryEach (of_givebacks (part_of h p))
