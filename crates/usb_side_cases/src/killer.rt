@@ -11,13 +11,7 @@ use usb_machine::Host;
 use usb_types::UrbId;
 
 /// Kills the URB so many times, and yields to other threads after each. What each kill claims is let go.
-pub fn kill_often<H: Host, R: Wait>(
-    rt: &R,
-    host: &H,
-    pass: &mut H::Pass,
-    urb: UrbId,
-    times: u32,
-)
+pub fn kill_often<H: Host, R: Wait>(rt: &R, host: &H, pass: &mut H::Pass, urb: UrbId, times: u32)
     requires here { H.is_of host.now pass.old }
     requires urb { IsUrb (H.machine host.now) urb.0 }
     requires room { (held_of (H.known pass.old).mine urb.0).rejects < 255 }

@@ -8,8 +8,8 @@ mod killer;
 mod layouts;
 mod opened;
 mod race;
-mod server;
 mod seldom;
+mod server;
 mod stepping;
 mod submitter;
 #[cfg(test)]

@@ -44,13 +44,7 @@ fn submit_as<H: Host, R: Wait>(
 }
 
 /// The kills, by a pass that is handed on.
-fn kill_as<H: Host, R: Wait>(
-    rt: &R,
-    host: &H,
-    mut pass: H::Pass,
-    urb: UrbId,
-    times: u32,
-) -> H::Pass
+fn kill_as<H: Host, R: Wait>(rt: &R, host: &H, mut pass: H::Pass, urb: UrbId, times: u32) -> H::Pass
     requires here { H.is_of host.now pass }
     requires urb { IsUrb (H.machine host.now) urb.0 }
     requires room { (held_of (H.known pass).mine urb.0).rejects < 255 }
@@ -134,7 +128,10 @@ pub(crate) fn race_all<R: Threads + Wait + Sync>(
     b: TurnPass<Stock>,
     urb: UrbId,
     times: u32,
-) -> (((TurnPass<Stock>, Tally), TurnPass<Stock>), (TurnServer, u64))
+) -> (
+    ((TurnPass<Stock>, Tally), TurnPass<Stock>),
+    (TurnServer, u64),
+)
     requires agrees { AgreesHere host.now server controller }
     requires here { IsHere host.now a × IsHere host.now b }
     requires home { HasHome (machine_at host.now) urb.0 }

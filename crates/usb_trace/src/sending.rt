@@ -129,12 +129,7 @@ fn transfer(call: &Call, buf: Buf, short: bool) -> Transfer
 }
 
 /// The transfer that a submit of the URB by this call sends.
-pub fn sent_by_call(
-    alloc: Global,
-    scene: &Scene,
-    urb: u32,
-    call: &Call,
-) -> Result<Transfer, Memory>
+pub fn sent_by_call(alloc: Global, scene: &Scene, urb: u32, call: &Call) -> Result<Transfer, Memory>
     requires good { IsWellFormed scene.now }
     requires bytes { IsBuffer call.now.bytes }
     ensures { IfOk result (λ t. t ≡ fresh scene.now urb call.now) }
