@@ -8,7 +8,6 @@ use Rattle.usb_bind.specs.declared.bound.Bound.{Bound}
 use Rattle.usb_class.specs.declared.class_core.Core.{Core}
 use Rattle.usb_class.specs.declared.owner.Owner.{Owner}
 use Rattle.usb_class.specs.declared.handlers.Handlers.{Handlers}
-use Rattle.usb_class.specs.declared.handlers.HandledUrb.{HandledUrb}
 use Rattle.usb_class.specs.Core.{IsCore}
 use Rattle.usb_scene.specs.declared.scene.Scene.{Scene}
 use Rattle.usb_scene.specs.WellFormed.{IsWellFormed}

@@ -1,5 +1,5 @@
 -- The numbers of drivers' own transfers, by the owners of the URBs.
-use Rattle.std.proofs.Common.{ℕ, zero, suc, ◌≡◌, ◌+◌, ◌<◌, ◌≤◌, Bool, cond, Option, Some, None, List, length, take, get_or, map, refl, sym, ap, ◌∙◌, arith, add-one}
+use Rattle.std.proofs.Common.{ℕ, zero, suc, ◌≡◌, ◌+◌, ◌<◌, ◌≤◌, cond, Option, Some, None, List, length, take, get_or, map, refl, sym, ap, ◌∙◌, arith, add-one}
 use Rattle.std.specs.Prelude.{count_by, slice_get}
 use Rattle.std.proofs.lemmas.List.{take_more, length-take-le}
 use Rattle.std.proofs.lemmas.List.Sums.{sum_by_push, count_by-le-length}

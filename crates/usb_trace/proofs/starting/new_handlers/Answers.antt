@@ -1,4 +1,4 @@
-use Rattle.std.proofs.Common.{ℕ, ◌≡◌, List, length, sym, ap, ◌∙◌, subst, arith}
+use Rattle.std.proofs.Common.{ℕ, ◌≡◌, List, length, ap, ◌∙◌, subst, arith}
 use Rattle.usb_bind.specs.declared.bound.Bound.{Bound}
 use Rattle.usb_class.specs.declared.handlers.Handlers.{Handlers}
 use Rattle.usb_prepare.specs.Layout.{urb_count}
