@@ -1,27 +1,33 @@
 -- A turn over a host, and the completion of what it gave back, in the words of a run.
-use Rattle.std.proofs.Common.{ℕ, ◌≡◌, ◌<◌, Bool, true, false, not, cond, Option, Some, None, List, [], ◌∷◌, ◌++◌, length, refl, sym, ap, ◌∙◌, subst}
+use Rattle.std.proofs.Common.{ℕ, ◌≡◌, ◌<◌, Bool, true, false, not, cond, Option, Some, None, List, [], ◌∷◌, ◌++◌, length, refl, sym, ap, ◌∙◌, subst, append_assoc}
 use Rattle.std.specs.Prelude.{slice_get}
+use Rattle.usb_types.specs.declared.errno.Errno.{Errno}
 use Rattle.usb_types.specs.declared.errno.Code.{Code}
+use Rattle.usb_types.specs.declared.errno.Code.TheVariants.{Zero, Fault}
 use Rattle.usb_types.specs.declared.urb.UrbId.{UrbId}
 use Rattle.usb_machine.specs.declared.entry.TheConstants.{SERVER}
 use Rattle.usb_machine.specs.declared.event.Event.{Event}
-use Rattle.usb_machine.specs.declared.event.Event.TheVariants.{Take, Finish, End}
+use Rattle.usb_machine.specs.declared.event.Event.TheVariants.{Take, Finish, Give, End}
 use Rattle.usb_machine.specs.declared.event.Answer.{Answer}
+use Rattle.usb_machine.specs.declared.event.Answer.TheVariants.{Code as Status}
 use Rattle.usb_machine.specs.declared.layout.Shape.{Shape}
 use Rattle.usb_machine.specs.declared.transfer.Transfer.{Transfer}
 use Rattle.usb_machine.specs.declared.entry.Entry.{Entry}
-use Rattle.usb_machine.specs.Calls.{plain_entry}
+use Rattle.usb_machine.specs.State.{is_zero}
+use Rattle.usb_machine.specs.HostCalls.{fault_at, shape_of}
+use Rattle.usb_machine.specs.Calls.{entry, plain_entry}
 use Rattle.usb_machine.specs.History.{Machine, HasHome}
 use Rattle.usb_machine.specs.Fresh.{Known}
+use Rattle.usb_machine.proofs.Growing.{grown_more}
 use Rattle.usb_machine.proofs.Rooms.{home_below}
 use Rattle.usb_xfer.specs.Replies.{Reply}
 use Rattle.usb_xfer.specs.Moved.{moved, moved_state, IsWhole}
 use Rattle.usb_xfer.specs.declared.packet.Step.TheVariants.{Ended}
 use Rattle.usb_serve.specs.declared.handler.Outcome.{Outcome as ServedOutcome}
+use Rattle.usb_serve.specs.declared.handler.Outcome.TheVariants as served
 use Rattle.usb_side.specs.Round as round
-use Rattle.usb_side.specs.Handled.{Handled, Handles as Did, Gave as Completed, handled_by as done_by}
+use Rattle.usb_side.specs.Handled.{Handled, Handles as Did, handled_by as done_by, rest_entry as rests_as, submit_of as submits}
 use Rattle.usb_side.proofs.Behind.{gave_home}
-use Rattle.usb_side.proofs.Handling.{gave_of}
 use Rattle.usb_class.specs.declared.handlers.Handlers.{Handlers}
 use Rattle.usb_class.specs.Handlers.{Completes, Asks, Unasks}
 use Rattle.usb_scene.specs.declared.scene.Scene.{Scene}
@@ -36,6 +42,7 @@ use Rattle.usb_trace.proofs.Handling.{further}
 use Rattle.usb_threads.specs.Apt.{AreApt}
 use Rattle.usb_threads.specs.Words.{outcome_in_run, question_in_run}
 use Rattle.usb_threads.specs.Serving.{of_givebacks, completed_by, served_entries, GaveNothing, Gave}
+use Rattle.usb_threads.proofs.Giving.{kept-append}
 use Rattle.usb_threads.proofs.Handlers.{handles_in_run, entries_in_run}
 
 -- what stands aside over a host stands aside in a run
@@ -51,6 +58,23 @@ same_givebacks (x ∷ xs) = λ i. cond (not (same_aside x.event x.answer i)) (x 
 same_first : (u : ℕ) (us : List ℕ) → round.is_first u us ≡ is_first u us
 same_first u [] = refl
 same_first u (v ∷ us) = refl
+
+-- what a handler adds stands not aside
+submits_kept : (fault : Option Errno) (u : ℕ) (t : Transfer) (a : Code) → of_givebacks (submits fault u t a) ≡ submits fault u t a
+submits_kept (Some e) u t a = refl
+submits_kept None u t Zero = refl
+submits_kept None u t (Fault e) = refl
+
+done_kept : (g : Machine) (u : ℕ) (back again : Transfer) (asking : Option (UrbId × Transfer)) (o : ServedOutcome) → of_givebacks (done_by g u back again asking o) ≡ done_by g u back again asking o
+done_kept g u back again asking served.Rested = refl
+done_kept g u back again asking (served.Again a) = let fault = fault_at (shape_of g u) again in
+    kept-append (submits fault u again a) (cond (is_zero a) [] (rests_as u again ∷ [])) ∙ (λ i. submits_kept fault u again a i ++ rest a i)
+  where
+    rest : (a : Code) → of_givebacks (cond (is_zero a) [] (rests_as u again ∷ [])) ≡ cond (is_zero a) [] (rests_as u again ∷ [])
+    rest Zero = refl
+    rest (Fault e) = refl
+done_kept g u back again None (served.Asked a) = refl
+done_kept g u back again (Some q) (served.Asked a) = ap (λ (l : List Entry). rests_as u back ∷ l) (submits_kept (fault_at (shape_of g q.0.0) q.1) q.0.0 q.1 a)
 
 -- a turn that gave nothing back
 pub gave_none : (s : Scene) (p q : Known) → round.GaveNothing (machine_of s) p q → GaveNothing s p q
@@ -77,9 +101,6 @@ module _ (s : Scene) (good : IsWellFormed s) (rounds : List Giveback) (p m q : K
   pub told_is : t ≡ moved_in s r
   told_is = let whole : Some t ≡ Some (moved b.shape b.sent b.replies) = b.back in let same : t ≡ moved b.shape b.sent b.replies = cc in same ∙ back_is
 
-  both : Completed g Completes Asks Unasks p q (record { 0 = u }) status old o new
-  both = gave_of g Completes Asks Unasks p m q (record { 0 = u }) status t old o new b d
-
   did : Did Completes Asks Unasks old (record { 0 = u }) status (moved_in s r) d.asking d.again o new
   did = subst (λ (x : Transfer). Did Completes Asks Unasks old (record { 0 = u }) status x d.asking d.again o new) told_is d.handles
 
@@ -91,17 +112,24 @@ module _ (s : Scene) (good : IsWellFormed s) (rounds : List Giveback) (p m q : K
   handlers_stand = (further s rounds old stands r given_near (question_in_run d.asking) new in_run).stand
 
   abbrev done : Transfer → List Entry
-  done x = done_by g u x d.again d.asking o ++ plain_entry SERVER (End record { 0 = u }) ∷ []
+  done x = done_by g u x d.again d.asking o
 
-  entries_so : round.of_givebacks both.more ≡ given_entries u status b.finished ++ done (moved b.shape b.sent b.replies)
-  unfolding gave_of
-  entries_so = both.entries
+  abbrev ends : List Entry
+  ends = plain_entry SERVER (End record { 0 = u }) ∷ []
 
-  entries_are : of_givebacks both.more ≡ served_entries s r
-  entries_are = sym (same_givebacks both.more) ∙ (entries_so ∙ (ap (λ (x : Transfer). given_entries u status b.finished ++ done x) back_is
-      ∙ ap (λ (l : List Entry). given_entries u status b.finished ++ (l ++ plain_entry SERVER (End record { 0 = u }) ∷ []))
+  -- what the turn and the handler added
+  abbrev more : List Entry
+  more = b.more ++ (done t ++ ends)
+
+  kept : of_givebacks more ≡ given_entries u status b.finished ++ (done t ++ ends)
+  kept = kept-append b.more (done t ++ ends)
+      ∙ (λ i. (sym (same_givebacks b.more) ∙ b.entries) i ++ (kept-append (done t) ends ∙ ap (λ l. l ++ ends) (done_kept g u t d.again d.asking o)) i)
+
+  entries_are : of_givebacks more ≡ served_entries s r
+  entries_are = kept ∙ (ap (λ (x : Transfer). given_entries u status b.finished ++ (done x ++ ends)) told_is
+      ∙ ap (λ (l : List Entry). given_entries u status b.finished ++ (l ++ ends))
       (entries_in_run s rounds old stands u given_near status (moved_in s r) good new d.again d.asking o did
-      (further s rounds old stands r given_near (question_in_run d.asking) new in_run).asks)))
+      (further s rounds old stands r given_near (question_in_run d.asking) new in_run).asks))
 
   moves : IsGiveback s r
   moves = record {
@@ -111,15 +139,14 @@ module _ (s : Scene) (good : IsWellFormed s) (rounds : List Giveback) (p m q : K
 
   -- so a run goes on with this giveback, if its replies are those that were due
   pub gave_run : (AreApt s q.seen → b.replies ≡ next_due s (home s u) (asked_of s (home s u) rounds) (asked_in s r)) → Gave s rounds p q r
-  unfolding gave_of
   gave_run due = record {
-    more = both.more;
-    went = record { grown = both.grown; sound = both.sound };
+    more = more;
+    went = record { grown = grown_more p m q b.more (done t ++ ends) b.grown d.grown; sound = d.sound };
     entries = entries_are;
     before = b.before;
-    later = both.behind;
+    later = d.grown.begins.more;
     late = record { more = b.late.0; is = sym b.late.1 };
-    split = both.split;
+    split = d.grown.begins.is ∙ (ap (λ l. l ++ d.grown.begins.more) b.split ∙ append_assoc b.before (entry SERVER (Give record { 0 = u }) (Status status) None ∷ []) d.grown.begins.more);
     was_sent = b.was_sent;
     first = λ some. sym (same_first u _) ∙ b.first some;
     replies = due;

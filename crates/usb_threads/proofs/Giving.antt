@@ -25,7 +25,7 @@ use Rattle.usb_threads.proofs.Firsts.{AreFirst, AreFirst-push, firsts_each}
 use Rattle.usb_threads.proofs.Sending.{apt_before}
 use Rattle.usb_threads.proofs.Gives.{gives_in, gives-append, none_given, servers_gives, gives_kept, one_give}
 
-kept-append : (xs ys : List Entry) → of_givebacks (xs ++ ys) ≡ of_givebacks xs ++ of_givebacks ys
+pub kept-append : (xs ys : List Entry) → of_givebacks (xs ++ ys) ≡ of_givebacks xs ++ of_givebacks ys
 kept-append xs ys = filter-append (λ x. not (is_aside x.event x.answer)) xs ys
 
 module _ (s : Scene) (rounds : List Giveback) (p q : Known) (number : p.number ≡ SERVER) (sound : Sound (machine_of s) p) (old : HasServed s p.seen p.mine rounds) where

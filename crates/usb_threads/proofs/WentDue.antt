@@ -35,15 +35,15 @@ pub with_else : (e : ℕ) (replies : List Reply) (so : ℕ → List Reply) (d : 
 with_else e replies so d off = ap (λ b. cond b replies (so d)) (ne_eqb d e off)
 
 -- what was asked for replies, and for more
-pub asked-append : (s : Scene) (e : ℕ) (asked : List Question) (t : Transfer) (old more : List Reply)
-    → asked ++ asks s e t (length (old ++ more)) ≡ (asked ++ asks s e t (length old)) ++ asks s e t (length more)
-asked-append s e asked t old more = ap (λ l. asked ++ l) (asks-append s e t old more) ∙ sym (append_assoc asked (asks s e t (length old)) (asks s e t (length more)))
+pub asked-append : (s : Scene) (e : ℕ) (asked : List Question) (t : Transfer) (old rest : List Reply)
+    → asked ++ asks s e t (length (old ++ rest)) ≡ (asked ++ asks s e t (length old)) ++ asks s e t (length rest)
+asked-append s e asked t old rest = ap (λ l. asked ++ l) (asks-append s e t old rest) ∙ sym (append_assoc asked (asks s e t (length old)) (asks s e t (length rest)))
 
 -- replies that are due, and then more that are due
-pub due-more : (s : Scene) (e : ℕ) (asked : List Question) (t : Transfer) (old more : List Reply) → old ≡ next_due s e asked (asks s e t (length old))
-    → more ≡ next_due s e (asked ++ asks s e t (length old)) (asks s e t (length more)) → old ++ more ≡ next_due s e asked (asks s e t (length (old ++ more)))
-due-more s e asked t old more first then_due =
-    (λ i. first i ++ then_due i) ∙ (sym (due-append s e asked (asks s e t (length old)) (asks s e t (length more))) ∙ ap (next_due s e asked) (sym (asks-append s e t old more)))
+pub due-more : (s : Scene) (e : ℕ) (asked : List Question) (t : Transfer) (old rest : List Reply) → old ≡ next_due s e asked (asks s e t (length old))
+    → rest ≡ next_due s e (asked ++ asks s e t (length old)) (asks s e t (length rest)) → old ++ rest ≡ next_due s e asked (asks s e t (length (old ++ rest)))
+due-more s e asked t old rest first then_due =
+    (λ i. first i ++ then_due i) ∙ (sym (due-append s e asked (asks s e t (length old)) (asks s e t (length rest))) ∙ ap (next_due s e asked) (sym (asks-append s e t old rest)))
 
 module _ (s : Scene) (good : IsWellFormed s) (seen : List Entry) (apt : AreApt s seen) (start : ℕ → Transfer) (asked : ℕ → List Question) (so : ℕ → List Reply) where
   -- one endpoint went on after others had
