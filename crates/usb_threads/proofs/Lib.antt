@@ -11,3 +11,4 @@ pub mod Back
 pub mod Going
 pub mod WentDue
 pub mod DueSoFar
+pub mod TurnDue

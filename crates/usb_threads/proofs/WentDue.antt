@@ -34,16 +34,16 @@ with_here e replies so = ap (λ b. cond b replies (so e)) (eq-eqb e e refl)
 pub with_else : (e : ℕ) (replies : List Reply) (so : ℕ → List Reply) (d : ℕ) → d ≢ e → with_replies e replies so d ≡ so d
 with_else e replies so d off = ap (λ b. cond b replies (so d)) (ne_eqb d e off)
 
--- what was asked for replies, and for more
-pub asked-append : (s : Scene) (e : ℕ) (asked : List Question) (t : Transfer) (old more : List Reply)
-    → asked ++ asks s e t (length (old ++ more)) ≡ (asked ++ asks s e t (length old)) ++ asks s e t (length more)
-asked-append s e asked t old more = ap (λ l. asked ++ l) (asks-append s e t old more) ∙ sym (append_assoc asked (asks s e t (length old)) (asks s e t (length more)))
+-- what was asked for replies, and for others after them
+pub asked-append : (s : Scene) (e : ℕ) (asked : List Question) (t : Transfer) (old new : List Reply)
+    → asked ++ asks s e t (length (old ++ new)) ≡ (asked ++ asks s e t (length old)) ++ asks s e t (length new)
+asked-append s e asked t old new = ap (λ l. asked ++ l) (asks-append s e t old new) ∙ sym (append_assoc asked (asks s e t (length old)) (asks s e t (length new)))
 
--- replies that are due, and then more that are due
-pub due-more : (s : Scene) (e : ℕ) (asked : List Question) (t : Transfer) (old more : List Reply) → old ≡ next_due s e asked (asks s e t (length old))
-    → more ≡ next_due s e (asked ++ asks s e t (length old)) (asks s e t (length more)) → old ++ more ≡ next_due s e asked (asks s e t (length (old ++ more)))
-due-more s e asked t old more first then_due =
-    (λ i. first i ++ then_due i) ∙ (sym (due-append s e asked (asks s e t (length old)) (asks s e t (length more))) ∙ ap (next_due s e asked) (sym (asks-append s e t old more)))
+-- replies that are due, and then others that are due
+pub due-more : (s : Scene) (e : ℕ) (asked : List Question) (t : Transfer) (old new : List Reply) → old ≡ next_due s e asked (asks s e t (length old))
+    → new ≡ next_due s e (asked ++ asks s e t (length old)) (asks s e t (length new)) → old ++ new ≡ next_due s e asked (asks s e t (length (old ++ new)))
+due-more s e asked t old new due_first due_then =
+    (λ i. due_first i ++ due_then i) ∙ (sym (due-append s e asked (asks s e t (length old)) (asks s e t (length new))) ∙ ap (next_due s e asked) (sym (asks-append s e t old new)))
 
 module _ (s : Scene) (good : IsWellFormed s) (seen : List Entry) (apt : AreApt s seen) (start : ℕ → Transfer) (asked : ℕ → List Question) (so : ℕ → List Reply) where
   -- one endpoint went on after others had
