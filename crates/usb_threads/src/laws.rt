@@ -57,7 +57,7 @@ pub fn what_was_sent_stands()
 {}
 
 /// Where first pending transfers go on in a well-formed scene, each one that its URB may have, the devices give the replies that are
-/// due. A giveback of the replies so far has those that are due next, and leaves none, or those of the first transfer before it.
+/// due. An URB that comes back has those that are due next: all so far where it was the first pending one, and else none.
 pub fn replies_stay_due()
     ensures chain { (s : Scene) (seen : List Entry) (start : ℕ → Transfer) (asked : ℕ → List Question) (devices after : List Scripted) (so now : ℕ → List Reply) → IsWellFormed s → AreApt s seen
         → ShowsDevices s asked devices → Went Replied (machine_of s) seen start devices so after now → WentDue s start asked so now after }
