@@ -15,7 +15,6 @@ use Rattle.usb_serve.specs.SoFar.{with_replies}
 use Rattle.usb_side.specs.Went.{Went, Stood, first, behind}
 use Rattle.usb_trace.specs.Plan.{machine_of}
 use Rattle.usb_trace.specs.Due.{asks, next_due}
-use Rattle.usb_trace.specs.Devices.{ShowsDevices}
 use Rattle.usb_trace.specs.Run.{Giveback, asked_in, asked_of}
 use Rattle.usb_trace.proofs.Dues.{nothing_due, asked-push_own, asked-push_else, asked-push_none}
 use Rattle.usb_trace.proofs.Devices.{devices_same}

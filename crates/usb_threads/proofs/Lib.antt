@@ -17,3 +17,4 @@ pub mod Handlers
 pub mod Given
 pub mod WentDue
 pub mod DueSoFar
+pub mod TurnDue

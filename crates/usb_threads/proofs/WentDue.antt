@@ -1,5 +1,5 @@
 -- Where first pending transfers go on, the devices give the replies that are due.
-use Rattle.std.proofs.Common.{ℕ, ◌≡◌, ◌≢◌, ◌<◌, cond, eqb, false, true, Some, List, [], ◌++◌, length, refl, sym, ap, ◌∙◌, subst, append_assoc, append-nil, eq-eqb, ne_eqb}
+use Rattle.std.proofs.Common.{ℕ, ◌≡◌, ◌≢◌, ◌<◌, cond, false, true, Some, List, [], ◌++◌, length, refl, sym, ap, ◌∙◌, subst, append_assoc, append-nil, eq-eqb, ne_eqb}
 use Rattle.std.specs.Prelude.{slice_get, slice_set}
 use Rattle.std.proofs.lemmas.Option.{slice_get_within}
 use mathlib.Core.Logic.{dite}
@@ -34,16 +34,16 @@ with_here e replies so = ap (λ b. cond b replies (so e)) (eq-eqb e e refl)
 pub with_else : (e : ℕ) (replies : List Reply) (so : ℕ → List Reply) (d : ℕ) → d ≢ e → with_replies e replies so d ≡ so d
 with_else e replies so d off = ap (λ b. cond b replies (so d)) (ne_eqb d e off)
 
--- what was asked for replies, and for more
-pub asked-append : (s : Scene) (e : ℕ) (asked : List Question) (t : Transfer) (old rest : List Reply)
-    → asked ++ asks s e t (length (old ++ rest)) ≡ (asked ++ asks s e t (length old)) ++ asks s e t (length rest)
-asked-append s e asked t old rest = ap (λ l. asked ++ l) (asks-append s e t old rest) ∙ sym (append_assoc asked (asks s e t (length old)) (asks s e t (length rest)))
+-- what was asked for replies, and for others after them
+pub asked-append : (s : Scene) (e : ℕ) (asked : List Question) (t : Transfer) (old new : List Reply)
+    → asked ++ asks s e t (length (old ++ new)) ≡ (asked ++ asks s e t (length old)) ++ asks s e t (length new)
+asked-append s e asked t old new = ap (λ l. asked ++ l) (asks-append s e t old new) ∙ sym (append_assoc asked (asks s e t (length old)) (asks s e t (length new)))
 
--- replies that are due, and then more that are due
-pub due-more : (s : Scene) (e : ℕ) (asked : List Question) (t : Transfer) (old rest : List Reply) → old ≡ next_due s e asked (asks s e t (length old))
-    → rest ≡ next_due s e (asked ++ asks s e t (length old)) (asks s e t (length rest)) → old ++ rest ≡ next_due s e asked (asks s e t (length (old ++ rest)))
-due-more s e asked t old rest first then_due =
-    (λ i. first i ++ then_due i) ∙ (sym (due-append s e asked (asks s e t (length old)) (asks s e t (length rest))) ∙ ap (next_due s e asked) (sym (asks-append s e t old rest)))
+-- replies that are due, and then others that are due
+pub due-more : (s : Scene) (e : ℕ) (asked : List Question) (t : Transfer) (old new : List Reply) → old ≡ next_due s e asked (asks s e t (length old))
+    → new ≡ next_due s e (asked ++ asks s e t (length old)) (asks s e t (length new)) → old ++ new ≡ next_due s e asked (asks s e t (length (old ++ new)))
+due-more s e asked t old new due_first due_then =
+    (λ i. due_first i ++ due_then i) ∙ (sym (due-append s e asked (asks s e t (length old)) (asks s e t (length new))) ∙ ap (next_due s e asked) (sym (asks-append s e t old new)))
 
 module _ (s : Scene) (good : IsWellFormed s) (seen : List Entry) (apt : AreApt s seen) (start : ℕ → Transfer) (asked : ℕ → List Question) (so : ℕ → List Reply) where
   -- one endpoint went on after others had

@@ -4,6 +4,7 @@ pub mod Scripts
 pub mod Apt
 pub mod Serving
 pub mod DueSoFar
+pub mod TurnDue
 pub mod Promises
 pub mod NextCall
 pub mod Words
