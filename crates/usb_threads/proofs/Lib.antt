@@ -9,3 +9,9 @@ pub mod Closed
 pub mod Together
 pub mod Back
 pub mod Going
+pub mod Ongoing
+pub mod Making
+pub mod CallsMade
+pub mod Calming
+pub mod ClosingDown
+pub mod Turns

@@ -4,3 +4,9 @@ pub mod Scripts
 pub mod Serving
 pub mod Promises
 pub mod NextCall
+pub mod Turning
+pub mod Calling
+pub mod Calm
+pub mod Controlling
+pub mod Jobs
+pub mod Wholes
