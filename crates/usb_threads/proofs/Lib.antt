@@ -15,3 +15,4 @@ pub mod CallsMade
 pub mod Calming
 pub mod ClosingDown
 pub mod Turns
+pub mod Dealing

@@ -12,6 +12,7 @@ use Rattle.usb_machine.specs.Fresh.{Known}
 use Rattle.usb_scene.specs.declared.scene.Scene.{Scene}
 use Rattle.usb_scene.specs.declared.scene.SceneThread.{SceneThread}
 use Rattle.usb_scene.specs.declared.scene.Call.{Call}
+use Rattle.usb_scene.specs.declared.operation.Operation.{Operation}
 use Rattle.usb_scene.specs.Operation.{operation_of}
 use Rattle.usb_trace.specs.declared.rows.HostCall.{HostCall}
 use Rattle.usb_trace.specs.declared.rows.HostCall.TheVariants as host_call
@@ -79,24 +80,24 @@ module _ (s : Scene) (i : ℕ) (calls : List Call) (from : Known) (new : IsNew s
       found = old.found;
     }
 
-    module _ (q : Known) (x : Call) (answer : CallAnswer) (down' : Bool) (near : k < length calls) (is : x ≡ get_or calls k x) (called : HasCalled s p q i x down answer) (now : down' ≡ down_after down (host_call_of s x) answer) where
+    module _ (q : Known) (x : Call) (answer : CallAnswer) (down' : Bool) (near : k < length calls) (is : x ≡ get_or calls k x) (called : HasCalled s p q i x down answer) (asked : Operation) (asks : asked ≡ operation_of x) (now : down' ≡ down_after down (host_call_of s x) answer) where
       abbrev did : CallRecord
       did = called.did
 
-      abbrev kept_of : ℕ → Call → CallAnswer → CallMade
-      kept_of i c a = record { thread = i; line = c.line; operation = operation_of c; target = c.target; answer = a }
+      abbrev kept_of : ℕ → Call → Operation → CallAnswer → CallMade
+      kept_of i c o a = record { thread = i; line = c.line; operation = o; target = c.target; answer = a }
 
       one_more : {X : Type 0} (f : CallRecord → List X) → flat_map f (old.call_records ++ did ∷ []) ≡ flat_map f old.call_records ++ f did
       one_more f = flat_map-append f old.call_records (did ∷ []) ∙ ap (λ l. flat_map f old.call_records ++ l) (append-nil (f did))
 
-      same : kept_of i x answer ≡ made_of did
-      same = λ j. kept_of (sym called.thread j) (sym called.call j) (sym called.told j)
+      same : kept_of i x asked answer ≡ made_of did
+      same = λ j. kept_of (sym called.thread j) (sym called.call j) ((asks ∙ ap operation_of (sym called.call)) j) (sym called.told j)
 
       claims : claimed_by (pass_of s i) q.seen ≡ flat_map (claims_in s) (old.call_records ++ did ∷ [])
       claims = subst (λ n. claimed_by n q.seen ≡ claimed_by n p.seen ++ claims_in s did) number called.claims
           ∙ (ap (λ l. l ++ claims_in s did) old.worked.claims ∙ sym (one_more (claims_in s)))
 
-      pub made_more : Making s i calls from q (k + 1) (made ++ kept_of i x answer ∷ []) down'
+      pub made_more : Making s i calls from q (k + 1) (made ++ kept_of i x asked answer ∷ []) down'
       made_more = record {
         call_records = old.call_records ++ did ∷ [];
         worked = record {

@@ -1,5 +1,5 @@
 //! A scene's host, as the threads of a run share it.
-ghost use Rattle.std.specs.Prelude.{◌≡◌, ◌<◌, ◌×◌, ◌++◌, ◌∷◌, ℕ, List, Option, [], All, IfOk, OnErr, length, map, true, false};
+ghost use Rattle.std.specs.Prelude.{◌≡◌, ◌<◌, ◌++◌, ◌∷◌, ℕ, List, Option, [], All, IfOk, OnErr, length, map, true, false};
 ghost use Rattle.std.specs.List.{zip};
 ghost use Rattle.usb_types.specs.declared.errno.Code.{Code as CodeOf};
 ghost use Rattle.usb_types.specs.declared.urb.Flag.TheVariants as flag;
