@@ -16,3 +16,4 @@ pub mod Calming
 pub mod ClosingDown
 pub mod Turns
 pub mod Dealing
+pub mod Finishing
