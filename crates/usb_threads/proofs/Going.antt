@@ -58,7 +58,7 @@ found_down host_call.Down down b e is = is
 found_down host_call.Up down b e is = is
 found_down _ down b e is = absurd (true≢false (sym e))
 
-down_by-push : (s : Scene) (b : Bool) (ds : List CallRecord) (d : CallRecord) → down_by s b (ds ++ d ∷ []) ≡ down_after (down_by s b ds) (host_call_of s d.call) d.answer
+pub down_by-push : (s : Scene) (b : Bool) (ds : List CallRecord) (d : CallRecord) → down_by s b (ds ++ d ∷ []) ≡ down_after (down_by s b ds) (host_call_of s d.call) d.answer
 down_by-push s b [] d = refl
 down_by-push s b (x ∷ ds) d = down_by-push s (down_after b (host_call_of s x.call) x.answer) ds d
 

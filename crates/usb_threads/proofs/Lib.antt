@@ -18,3 +18,11 @@ pub mod Given
 pub mod WentDue
 pub mod DueSoFar
 pub mod TurnDue
+pub mod Ongoing
+pub mod Making
+pub mod CallsMade
+pub mod Calming
+pub mod ClosingDown
+pub mod Turns
+pub mod Dealing
+pub mod Finishing

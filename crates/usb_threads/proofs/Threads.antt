@@ -28,7 +28,7 @@ done_other i j (d ∷ ds) off by =
     ∙ done_other i j ds off (All-tail (λ (d : CallRecord). d.thread ≡ j) d ds by)
 
 module _ (made : ℕ → List CallRecord) where
-  made-push : (n : ℕ) → flat_map made (below (suc n)) ≡ flat_map made (below n) ++ made n
+  pub made-push : (n : ℕ) → flat_map made (below (suc n)) ≡ flat_map made (below n) ++ made n
   made-push n = flat_map-append made (below n) (n ∷ []) ∙ ap (λ l. flat_map made (below n) ++ l) (append-nil (made n))
 
   none_of : (i n : ℕ) → ((j : ℕ) → j < n → AreBy j (made j)) → ((j : ℕ) → j < n → j ≢ i) → done_by i (flat_map made (below n)) ≡ []

@@ -9,3 +9,8 @@ pub mod Promises
 pub mod NextCall
 pub mod Words
 pub mod Turning
+pub mod Calling
+pub mod Calm
+pub mod Controlling
+pub mod Jobs
+pub mod Wholes
