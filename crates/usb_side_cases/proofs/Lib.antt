@@ -1,3 +1,4 @@
+pub mod Both
 pub mod Counting
 pub mod Killing
 pub mod Whole

@@ -34,10 +34,10 @@ all_back g h p u below legal kept =
     let q = ap bit (is_kept g p u h legal below kept).queued in omega arith
 
 module _ (g : Machine) (h : List Entry) (s hub a b : Known) (closed : IsClosed g h (s ∷ hub ∷ a ∷ b ∷ [])) where
-  part_a : a.number ≡ 2 → part_of h 2 ≡ a.mine
+  pub part_a : a.number ≡ 2 → part_of h 2 ≡ a.mine
   part_a two = subst (λ k. part_of h k ≡ a.mine) two (closed.own 2 a (omega arith))
 
-  part_b : b.number ≡ 3 → part_of h 3 ≡ b.mine
+  pub part_b : b.number ≡ 3 → part_of h 3 ≡ b.mine
   part_b three = subst (λ k. part_of h k ≡ b.mine) three (closed.own 3 b (omega arith))
 
   pub accepted_are : (u n : ℕ) (p : Known) → p ≡ unused 2 → SubmittedTimes u n p a → submits (part_of h 2) u ≡ n
