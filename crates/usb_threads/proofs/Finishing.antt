@@ -18,7 +18,6 @@ use Rattle.usb_prepare.specs.Below.{below}
 use Rattle.usb_prepare.specs.Layout.{urb_count}
 use Rattle.usb_prepare.specs.Ends.{ends_of}
 use Rattle.usb_prepare.proofs.Below.{length-map_below, is-map_below}
-use Rattle.usb_prepare.proofs.Lists.{is_there}
 use Rattle.usb_trace.specs.declared.rows.GivebackRow.{GivebackRow}
 use Rattle.usb_trace.specs.Plan.{machine_of, pass_of, main_pass}
 use Rattle.usb_trace.specs.Claims.{numbers_of}
@@ -41,6 +40,11 @@ module _ {X : Type 0} where
 
   at_place : (xs : List X) (k : ℕ) (x : X) → slice_get xs k ≡ Some x → Contains xs x
   at_place xs k x at = (k, slice_get_within xs k x at, get_or_from_slice_get xs k x x at)
+
+  item_at : (xs : List X) (k : ℕ) → k < length xs → (x : X) × (slice_get xs k ≡ Some x)
+  item_at [] k l = absurd (omega arith)
+  item_at (x ∷ xs) zero l = (x, refl)
+  item_at (x ∷ xs) (suc k) l = item_at xs k (omega arith)
 
   same_items : (xs ys : List X) → length xs ≡ length ys → ((k : ℕ) (x y : X) → slice_get xs k ≡ Some x → slice_get ys k ≡ Some y → x ≡ y) → xs ≡ ys
   same_items [] [] e same = refl
@@ -176,7 +180,7 @@ module _ {S : Type 0} (of : S → Type 0) (known : S → Known) (s : Scene) (aft
       last = main;
       main = record { number = all.number; sound = all.sound; reads = all.reads; meets = ends.meets; more = ends.more; went = ends.went; closes = ends.closes };
       main_closed = Contains-append_left two (map known last_seats ++ spares) main (1, omega arith, refl);
-      threads = λ i l. let seat = is_there last_seats i (let count = ends.count in omega arith) in let d = done i seat.0 seat.1 in record {
+      threads = λ i l. let seat = item_at last_seats i (let count = ends.count in omega arith) in let d = done i seat.0 seat.1 in record {
         from = d.from;
         to = d.to;
         thread = d.thread;

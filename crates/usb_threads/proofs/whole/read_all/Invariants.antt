@@ -1,6 +1,6 @@
 use Rattle.std.proofs.Common.{List}
 use Rattle.usb_machine.specs.declared.entry.Entry.{Entry}
-use Rattle.usb_trace.specs.Plan.{machine_of, main_pass}
+use Rattle.usb_trace.specs.Plan.{machine_of}
 use Rattle.usb_threads.specs.Passes.{WentOn}
 use Rattle.usb_threads.specs.MainPass.{HasRead}
 use Rattle.usb_threads.proofs.whole.read_all.Given as goal
