@@ -202,11 +202,11 @@ module _ {S : Type 0} (of : S → Type 0) (known : S → Known) (s : Scene) (aft
       spare = others;
     }
 
-    pub has_run : (left : Left) → ((rounds : List Giveback) → after rounds → (left.told ≡ drivers_told s rounds) × (left.ends ≡ map (end_of s rounds) (below (ends_of s)))) → HasRun s h ended.made given left
-    has_run left said = let stands = said all.controlled.rounds all.controlled.stands in record {
+    pub has_run : IsWellFormed s → (left : Left) → ((rounds : List Giveback) → after rounds → (left.told ≡ drivers_told s rounds) × (left.ends ≡ map (end_of s rounds) (below (ends_of s)))) → HasRun s h ended.made given left
+    has_run good left said = let stands = said all.controlled.rounds all.controlled.stands in record {
       call_records = all_made s ends.collected.works;
       rounds = all.controlled.rounds;
-      run = together_is_run s h ends.collected.works all.controlled.rounds together;
+      run = together_is_run s h ends.collected.works all.controlled.rounds good together;
       calls_told = ends.collected.kept ∙ ap (λ k. map made_of (flat_map ends.collected.works (below k))) ends.count;
       givebacks_told = all.controlled.told;
       drivers_say = stands.0;

@@ -32,7 +32,7 @@ module _ (s : Scene) (from : Known) (idle : IsIdle s from) where
     entries = ap of_givebacks idle.new;
     gives = no_episode [] from.seen no_give;
     firsts = subst (AreFirst []) (sym (no_first_given (machine_of s) [] from.seen no_give)) (λ k r at some. absurd (cc (at)));
-    replies = λ e. sym (due-none s e []);
+    replies = λ apt e. sym (due-none s e []);
     moves = All-nil (IsGiveback s);
     handled = tt;
   }

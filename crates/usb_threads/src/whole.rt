@@ -172,6 +172,7 @@ fn finish<H: SceneHost>(
     controlled: Controlled<H::Server>,
     ended: Ended<H::Seat>,
 ) -> Result<Run<H::Closed>, Memory>
+    requires good { IsWellFormed (H.scene host) }
     requires spare { H.is_spare host spare }
     requires server { H.serves host controlled.server }
     requires all { IfOk controlled.given (IsAllIn (H.is_of host) H.known (H.scene host) (H.after host controlled.server) (H.own controlled.server) ended) }

@@ -27,4 +27,4 @@ pub returns : goal.returns
 returns g c =
     let h = g.H.SceneHost in let host = c.args.host in let s = h.scene host in let after = h.after host c.args.controlled.server in let server = h.own c.args.controlled.server in
     let all = subst (λ (r : Result (List GivebackRow) Memory). IfOk r (IsAllIn (h.is_of host) h.known s after server c.args.ended)) c.in_ok-given.was c.requires.all in
-    has_run (h.is_of host) h.known s after server c.args.ended c.in_ok-given.given all (h.history c.in_ok-closed.closed) (h.spares c.args.spare) (g.met.H.SceneHost.idle host c.args.spare c.requires.spare) c.in_ok-closed.ensures.closed c.in_ok-closed.left c.in_ok-closed.ensures.left
+    has_run (h.is_of host) h.known s after server c.args.ended c.in_ok-given.given all (h.history c.in_ok-closed.closed) (h.spares c.args.spare) (g.met.H.SceneHost.idle host c.args.spare c.requires.spare) c.in_ok-closed.ensures.closed c.requires.good c.in_ok-closed.left c.in_ok-closed.ensures.left
