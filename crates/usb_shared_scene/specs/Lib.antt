@@ -1,4 +1,0 @@
-pub mod Here
-pub mod Serving
-pub mod Spares
-pub mod Opened

@@ -1,4 +1,0 @@
-pub mod Both
-pub mod Counting
-pub mod Killing
-pub mod Whole
