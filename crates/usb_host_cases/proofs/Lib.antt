@@ -1,3 +1,2 @@
-pub mod Crossing
 pub mod Ends
 pub mod Passes

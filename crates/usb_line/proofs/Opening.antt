@@ -1,43 +1,36 @@
 -- The run's object before the first call.
-use Rattle.std.proofs.Common.{ℕ, ◌≡◌, ◌+◌, ◌<◌, Bool, true, false, Option, Some, None, List, [], ◌∷◌, ◌++◌, length, take, get_or, map, refl, sym, ap, ◌∙◌, subst, arith, append-nil, length-append, true≢false}
+use Rattle.std.proofs.Common.{ℕ, ◌≡◌, ◌+◌, ◌<◌, false, Option, Some, None, List, [], ◌∷◌, ◌++◌, length, take, get_or, map, refl, sym, ap, ◌∙◌, subst, arith, length-append}
 use Rattle.std.specs.Prelude.{slice_get}
 use Rattle.std.proofs.lemmas.List.{take_more}
 use Rattle.std.proofs.lemmas.Option.{slice_get-get_or, slice_get_within}
 use Rattle.usb_machine.specs.declared.layout.Shape.{Shape}
 use Rattle.usb_machine.specs.History.{or_zero}
 use Rattle.usb_machine.specs.Plain.{Stands}
-use Rattle.usb_device.specs.declared.scripted.Scripted.{Scripted}
-use Rattle.usb_device.specs.Device.{questions_at, Call}
 use Rattle.usb_class.specs.declared.owner.Owner.{Owner}
-use Rattle.usb_xfer.specs.Replies.{Question}
 use Rattle.usb_scene.specs.declared.scene.Scene.{Scene}
-use Rattle.usb_scene.specs.declared.scene.SceneDevice.{SceneDevice}
 use Rattle.usb_scene.specs.declared.scene.SceneUrb.{SceneUrb}
-use Rattle.usb_scene.specs.WellFormed.{is_raw, IsWellFormed}
+use Rattle.usb_scene.specs.WellFormed.{IsWellFormed}
 use Rattle.usb_line.specs.declared.run.UrbRow.{UrbRow}
 use Rattle.usb_line.specs.declared.run.EndRow.{EndRow}
 use Rattle.usb_line.specs.declared.run.LineRun.{LineRun}
-use Rattle.usb_prepare.specs.Ends.{control_end, shapes_of, shape_at, or_control, raw_in, is_raw_at}
+use Rattle.usb_prepare.specs.Ends.{control_end, shapes_of, shape_at, or_control}
 use Rattle.usb_prepare.specs.Layout.{homes_of, urb_count}
 use Rattle.usb_trace.specs.Plan.{machine_of, owner_of, again_in}
 use Rattle.usb_trace.specs.NewCores.{owners_of}
 use Rattle.usb_prepare.specs.Below.{below}
 use Rattle.usb_line.specs.Line.{at_start}
 use Rattle.usb_line.specs.Shows.{ShowsUrb, ShowsEnd, Shows, asked_now}
-use Rattle.usb_trace.specs.Devices.{ShowsDevice}
 use Rattle.usb_trace.specs.Handlers.{ShowsCores}
 use Rattle.usb_line.specs.Opened.{IsNewEnd, AreNewEnds, new_urb}
-use Rattle.usb_trace.specs.Due.{heard_before}
 use Rattle.usb_prepare.specs.Bindings.{HaveHeard}
 use Rattle.usb_prepare.specs.Prepared.{probes_of}
 use Rattle.usb_prepare.specs.Ready.{AreReady}
 use Rattle.usb_line.proofs.Calm.{calm_empty, linked_empty}
-use Rattle.usb_trace.proofs.CoresSeen.{some_at}
 use Rattle.usb_trace.proofs.NewCoresShown.{pairs_longer}
 use Rattle.usb_prepare.proofs.Below.{map_below-suc, length-map_below, is-map_below, get-map_below}
-use Rattle.usb_prepare.proofs.Facts.{few_ends, unhalted_before}
+use Rattle.usb_prepare.proofs.Facts.{few_ends}
 use Rattle.usb_line.proofs.Asked.{asked_idle}
-use Rattle.usb_trace.proofs.Devices.{ruled_at, packets_at}
+use Rattle.usb_trace.proofs.NewDevices.{devices_new}
 
 one_more : (xs : List Shape) (ys : List EndRow) (x : Shape) (y : EndRow) → AreNewEnds xs ys → IsNewEnd x y → AreNewEnds (xs ++ x ∷ []) (ys ++ y ∷ [])
 one_more xs ys x y old new = record {
@@ -76,45 +69,6 @@ module _ (s : Scene) (good : IsWellFormed s) (run : LineRun) (stands : Stands ru
         acked = new.none;
       }
 
-  device_shown : (d : ℕ) (x : Scripted) → slice_get run.devices.items d ≡ Some x → ShowsDevice s (asked_now s at_start) d x
-  device_shown d x at =
-      let near = slice_get_within run.devices.items d x at in
-      let count = ready.count in
-      let there = some_at s.devices d (omega arith) in
-      go there.0 there.1 (is_raw there.0.script.kind) refl
-    where
-      -- before the run no endpoint was asked in it
-      unasked : (e : ℕ) → asked_now s at_start e ≡ []
-      unasked e = asked_idle s at_start e refl
-
-      go : (device : SceneDevice) → slice_get s.devices d ≡ Some device → (b : Bool) → is_raw device.script.kind ≡ b → ShowsDevice s (asked_now s at_start) d x
-      go device there true raw =
-          let new = ready.each d device x there at in
-          let known : is_raw_at s d ≡ true = ap raw_in there ∙ raw in record {
-            device = device;
-            at = there;
-            calls = new.calls;
-            stands = new.stands;
-            counts = λ e l own is. ap (λ calls. length (questions_at (shape_at s e).address calls)) (new.unasked raw) ∙ ap (λ (q : List Question). length q) (sym (unasked e));
-            rules = λ e l own is. absurd (true≢false (sym known ∙ (ap (is_raw_at s) (sym own) ∙ (ruled_at s e is).0)));
-            unhalted = λ other. absurd (true≢false (sym known ∙ other));
-          }
-      go device there false other =
-          let near = slice_get_within s.devices d device there in
-          let same = heard.same in
-          let calls : List Call = heard_before s d in
-          let one : slice_get (probes_of s).heard d ≡ Some calls = slice_get-get_or (probes_of s).heard d [] (omega arith) in
-          let bare = unhalted_before s good d device calls there one in
-          let known : is_raw_at s d ≡ false = ap raw_in there ∙ other in record {
-            device = device;
-            at = there;
-            calls = calls;
-            stands = heard.each d device calls x there one at;
-            counts = λ e l own is. ap (λ (q : List Question). length q) (bare.1 (shape_at s e).address (packets_at s e is (ap (is_raw_at s) own ∙ known)) ∙ sym (unasked e));
-            rules = λ e l own is. sym (ap (λ l. questions_at 0 calls ++ l) (unasked e) ∙ append-nil (questions_at 0 calls));
-            unhalted = λ o. bare.0;
-          }
-
   urb_shown : (u : ℕ) (row : UrbRow) → slice_get run.urbs.items u ≡ Some row → ShowsUrb s at_start u row
   urb_shown u row at =
       let is : row ≡ new_urb s u = is-map_below (new_urb s) (urb_count s) u row (ap (λ l. slice_get l u) (sym urbs) ∙ at) in
@@ -125,7 +79,7 @@ module _ (s : Scene) (good : IsWellFormed s) (run : LineRun) (stands : Stands ru
     stands = stands;
     calm = calm_empty;
     linked = linked_empty;
-    devices = record { all = ready.count; each = device_shown };
+    devices = devices_new s good run.devices.items ready heard (asked_now s at_start) (λ e. asked_idle s at_start e refl);
     few_ends = few_ends s good;
     all_ends = ends.count;
     each_end = end_shown;

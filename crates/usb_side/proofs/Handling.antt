@@ -171,7 +171,7 @@ handlers_given (x ∷ xs) a = ap (λ b. cond (not b) (x ∷ of_givebacks xs) (of
     go _ a is = refl
 
 -- the entries that a completion adds, by what it comes to
-came_more : {K : Type 0} (g : Machine) (completes : K → UrbId → Code → Transfer → Result Action Memory → K → Type 0) (asks : K → Option (UrbId × Transfer) → K → Type 0) (unasks : K → Transfer → K → Type 0) (p q : Known) (u : UrbId) (code : Code) (t : Transfer) (h : K) (r : Result Outcome Memory) (k : K)
+pub came_more : {K : Type 0} (g : Machine) (completes : K → UrbId → Code → Transfer → Result Action Memory → K → Type 0) (asks : K → Option (UrbId × Transfer) → K → Type 0) (unasks : K → Transfer → K → Type 0) (p q : Known) (u : UrbId) (code : Code) (t : Transfer) (h : K) (r : Result Outcome Memory) (k : K)
     → Came g completes asks unasks p q u code t h r k → (more : List Entry) × Grown p q more × AllAre IsHandlers more × Sound g q
 came_more g completes asks unasks p q u code t h (Ok o) k c =
     let hs : List Entry = handled_by g u.0 t c.again c.asking o in

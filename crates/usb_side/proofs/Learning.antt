@@ -1,5 +1,11 @@
 -- What stays of the replies so far while the server's pass learns more, and over a wake.
 use Rattle.std.proofs.Common.{◌≡◌, ℕ, List, [], refl, ap, ◌∙◌, map}
+use Rattle.std.specs.Prelude.{Option, Result}
+use Rattle.usb_types.specs.declared.urb.UrbId.{UrbId}
+use Rattle.usb_types.specs.declared.urb.Action.{Action}
+use Rattle.usb_types.specs.declared.errno.Code.{Code}
+use Rattle.usb_types.specs.declared.outside.Memory.{Memory}
+use Rattle.usb_machine.specs.declared.transfer.Transfer.{Transfer}
 use Rattle.usb_machine.specs.declared.entry.TheConstants.{SERVER}
 use Rattle.usb_machine.specs.declared.entry.Entry.{Entry}
 use Rattle.usb_machine.specs.History.{Machine}
@@ -13,7 +19,10 @@ use Rattle.usb_serve.specs.Held.{Agrees, awake, urbs_in}
 use Rattle.usb_serve.specs.SoFar.{IsSoFar}
 use Rattle.usb_serve.proofs.Awake.{held_awake}
 use Rattle.usb_side.specs.Side.{side_knows}
+use Rattle.usb_serve.specs.declared.handler.Outcome.{Outcome}
 use Rattle.usb_side.specs.Went.{first_sent, sent_with}
+use Rattle.usb_side.specs.Handled.{Came}
+use Rattle.usb_side.proofs.Handling.{came_more}
 use Rattle.usb_side.proofs.Knowing.{queued}
 use Rattle.usb_side.proofs.Rows.{first_at, first_pending}
 use Rattle.usb_side.proofs.Replying.{first_stays}
@@ -33,3 +42,9 @@ module _ {D : Type 0} (g : Machine) (p q : Known) (server : p.number ≡ SERVER)
 -- a wake changes no first URB
 pub first_awake : (seen : List Entry) (xs now : List EndRow) → now ≡ map awake xs → (e : ℕ) → first_sent seen now e ≡ first_sent seen xs e
 first_awake seen xs now is e = ap (λ ends. first_sent seen ends e) is ∙ ap (λ hs. sent_with seen (first_of (urbs_in hs))) (held_awake xs e)
+
+-- over a completion, what was sent with each first URB stays
+pub came_first : {K D : Type 0} (g : Machine) (completes : K → UrbId → Code → Transfer → Result Action Memory → K → Type 0) (asks : K → Option (UrbId × Transfer) → K → Type 0) (unasks : K → Transfer → K → Type 0) (p q : Known) (u : UrbId) (code : Code) (t : Transfer) (h : K) (r : Result Outcome Memory) (k : K) (c : Controller D)
+    → p.number ≡ SERVER → Sound g p → Came g completes asks unasks p q u code t h r k → (n : ℕ) (P : Type 0) (X : ℕ → Type 0) → Agrees (side_knows g p n P X) c → (e : ℕ) → first_sent q.seen c.ends.items e ≡ first_sent p.seen c.ends.items e
+came_first g completes asks unasks p q u code t h r k c server sound came n P X a =
+    let w = came_more g completes asks unasks p q u code t h r k came in first_over g p q server sound c n P X a w.3 w.0 w.1 w.2

@@ -41,11 +41,11 @@ pub fn a_completion_keeps_the_agreement<H: Serves, D: Device, K: Handler>()
         → Agrees (side_knows (H.machine x) (H.known (H.Server.own z)) (H.Server.given z) (IsWholeSide (H.machine x) (H.is_of x (H.Server.own z)) (H.known (H.Server.own z)) (H.Server.pending z) (H.Server.given z) (H.Server.has_room z)) (H.is_settled x z)) c }
 {}
 
-/// And the replies so far stay.
+/// And the replies so far stay, with the transfers that were sent with the first URBs.
 pub fn a_completion_keeps_the_replies<H: Serves, D: Device, K: Handler>()
     ensures { (x : H) (s z : H.Server) (u : UrbId) (code : Code) (t : Transfer) (h k : K) (r : Result Outcome Memory) (c : Controller D) (so : ℕ → List Reply)
         → Came (H.machine x) K.completes K.asks K.unasks (H.known (H.Server.own s)) (H.known (H.Server.own z)) u code t h r k
         → Agrees (side_knows (H.machine x) (H.known (H.Server.own s)) (H.Server.given s) (IsWholeSide (H.machine x) (H.is_of x (H.Server.own s)) (H.known (H.Server.own s)) (H.Server.pending s) (H.Server.given s) (H.Server.has_room s)) (H.is_settled x s)) c
         → IsSoFar (side_knows (H.machine x) (H.known (H.Server.own s)) (H.Server.given s) (IsWholeSide (H.machine x) (H.is_of x (H.Server.own s)) (H.known (H.Server.own s)) (H.Server.pending s) (H.Server.given s) (H.Server.has_room s)) (H.is_settled x s)) so c.ends.items
-        → IsSoFar (side_knows (H.machine x) (H.known (H.Server.own z)) (H.Server.given z) (IsWholeSide (H.machine x) (H.is_of x (H.Server.own z)) (H.known (H.Server.own z)) (H.Server.pending z) (H.Server.given z) (H.Server.has_room z)) (H.is_settled x z)) so c.ends.items }
+        → IsSoFar (side_knows (H.machine x) (H.known (H.Server.own z)) (H.Server.given z) (IsWholeSide (H.machine x) (H.is_of x (H.Server.own z)) (H.known (H.Server.own z)) (H.Server.pending z) (H.Server.given z) (H.Server.has_room z)) (H.is_settled x z)) so c.ends.items × ((e : ℕ) → first_sent (H.known (H.Server.own z)).seen c.ends.items e ≡ first_sent (H.known (H.Server.own s)).seen c.ends.items e) }
 {}

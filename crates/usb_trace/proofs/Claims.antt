@@ -50,7 +50,7 @@ claimed_none p before (x ∷ xs) is =
     ap (λ l. l ++ claimed_after p (before ++ x ∷ []) xs) (head_none (eqb x.pass p) before x (part_of xs p) is)
     ∙ claimed_none p (before ++ x ∷ []) xs (tail_none (eqb x.pass p) x (part_of xs p) is)
 
-claimed-append : (p : ℕ) (before xs ys : List Entry) → claimed_after p before (xs ++ ys) ≡ claimed_after p before xs ++ claimed_after p (before ++ xs) ys
+pub claimed-append : (p : ℕ) (before xs ys : List Entry) → claimed_after p before (xs ++ ys) ≡ claimed_after p before xs ++ claimed_after p (before ++ xs) ys
 claimed-append p before [] ys = ap (λ l. claimed_after p l ys) (sym (append-nil before))
 claimed-append p before (x ∷ xs) ys =
     let first : List (ℕ × Option Transfer) = cond (eqb x.pass p) (claim_at before x.event) [] in

@@ -35,3 +35,4 @@ pub mod Controls
 pub mod Chained
 pub mod Apt
 pub mod Devices
+pub mod NewDevices

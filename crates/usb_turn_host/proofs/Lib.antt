@@ -9,3 +9,4 @@ pub mod Serving
 pub mod Closing
 pub mod Beginning
 pub mod Settled
+pub mod Crossing

@@ -1,5 +1,5 @@
 use denote.Param.Send.{sendable}
-use Rattle.usb_host_cases.proofs.Crossing.{pass_send, hub_send, server_send, host_sync}
+use Rattle.usb_turn_host.proofs.Crossing.{pass_send, hub_send, server_send, host_sync}
 use Rattle.usb_host_cases.proofs.turns.kills_by_turns.Goals as goal
 
 pub open_two-requires-send-H-Server : goal.open_two-requires-send-H-Server
