@@ -1,3 +1,4 @@
+//! A log of calls on anchors, row by row.
 use usb_types::UrbId;
 
 // The numbers that a row gives the calls.
