@@ -169,7 +169,8 @@ fn check_log<R: Abort + AllocGlobal>(
     let mut wanted = Vec::new(rt.alloc());
     let mut taken = Vec::new(rt.alloc());
     for (at, row) in rows.iter().enumerate() {
-        if let Some(row) = logged(row, caller(at), taken.len() as u32) {
+        let from = u32::try_from(taken.len()).unwrap_or(u32::MAX);
+        if let Some(row) = logged(row, caller(at), from) {
             wanted.push(row)?;
         }
         for urb in victims(row) {

@@ -106,7 +106,7 @@ fn with_urb(row: LogRow, urb: Option<u32>) -> LogRow {
 
 fn with_count(row: LogRow, urbs: &[u32]) -> LogRow {
     LogRow {
-        count: urbs.len() as u32,
+        count: u32::try_from(urbs.len()).unwrap_or(u32::MAX),
         ..row
     }
 }
