@@ -1,0 +1,67 @@
+use Rattle.std.proofs.Common.{◌≡◌, true, ℕ, ◌++◌, ◌∷◌, [], cond, length, Some, None, refl, ap, sym, ◌∙◌, subst}
+use Rattle.usb_turn.specs.Pass.{Pass}
+use Rattle.usb_turn.specs.Shown.{id_of}
+use Rattle.usb_anchors.specs.Opened.{key_of}
+use Rattle.usb_anchor.specs.declared.log.LogRow.{LogRow}
+use Rattle.usb_anchor.specs.declared.log.TheConstants.{IS_EMPTY}
+use Rattle.usb_anchor.specs.Log.{row}
+use Rattle.usb_anchor.specs.Core.{CanCall}
+use Rattle.usb_anchors.specs.Host.{Sees, rejects_by}
+use Rattle.usb_anchors.specs.Rack.{sized}
+use Rattle.usb_anchors.specs.declared.rack.Plan.{Plan}
+use Rattle.usb_anchors.proofs.Turning.{grown, newest_is, grown_newest, told_by, at_most_one, may_call, legal_by, numbered, acts_of, sees}
+use Rattle.usb_machine.proofs.Growing.{grown_none, begins_trans}
+use Rattle.usb_anchors.proofs.anchors.Anchors.is_empty.Goals as goal
+
+pub leave-requires-clause-stands : goal.leave-requires-clause-stands
+leave-requires-clause-stands g c =
+    let v = c.enter-rack.result in let q = c.enter-rack.new.pass in let p = c.args.by.now.turn in let e = c.enter-rack.ensures in let plan = key_of c.args.self.now.turns in
+    let x = row c.number.result IS_EMPTY (Some c.args.anchor) None None (length v.core.victims) (cond c.is_empty-answer.result 1 0) in
+    let can : CanCall v.core.left c.number.result = may_call g.H.Host.machine g.H.Host.is_of g.H.Host.known (id_of c.args.self.now.turns) plan p q c.args.by.now.left c.number.result v c.requires.by c.requires.left e.same e.own e.stands e.key c.number.ensures in
+    let host = subst (λ (k : Plan _ _). g.H.Host.is_of k.host.value c.meet-2.new.other) (sym e.key) (subst (λ h. g.H.Host.is_of h c.meet-2.new.other) (sym c.requires.host.1) c.meet-2.ensures.here.1) in
+    let known = g.H.Host.known in let n = (known v.plan.first.value).number in
+    let middle = c.meet.ensures.pass.grown.number ∙ e.stands.number in
+    let acts = acts_of n (known v.pass) (known c.meet.new.pass) (known c.meet.new.pass) (known c.meet-2.new.other) _ v.plan.urbs x q.seen c.meet.ensures.pass.grown (grown_none (known c.meet.new.pass)) c.meet-2.ensures.other.grown refl in
+    grown_newest g.H.Host.machine g.H.Host.is_of known v (record { core = c.is_empty-answer.new.self; pass = c.meet-2.new.other; raised = v.raised; grew = true; plan = v.plan }) q.seen x ([]) e.stands c.is_empty-answer.ensures.log refl host c.know.ensures can acts refl
+
+pub leave-requires-clause-one : goal.leave-requires-clause-one
+leave-requires-clause-one g c =
+    let v = c.enter-rack.result in let q = c.enter-rack.new.pass in let p = c.args.by.now.turn in let e = c.enter-rack.ensures in let plan = key_of c.args.self.now.turns in
+    let x = row c.number.result IS_EMPTY (Some c.args.anchor) None None (length v.core.victims) (cond c.is_empty-answer.result 1 0) in
+    let can : CanCall v.core.left c.number.result = may_call g.H.Host.machine g.H.Host.is_of g.H.Host.known (id_of c.args.self.now.turns) plan p q c.args.by.now.left c.number.result v c.requires.by c.requires.left e.same e.own e.stands e.key c.number.ensures in
+    let host = subst (λ (k : Plan _ _). g.H.Host.is_of k.host.value c.meet-2.new.other) (sym e.key) (subst (λ h. g.H.Host.is_of h c.meet-2.new.other) (sym c.requires.host.1) c.meet-2.ensures.here.1) in
+    let known = g.H.Host.known in let n = (known v.plan.first.value).number in
+    let middle = c.meet.ensures.pass.grown.number ∙ e.stands.number in
+    let acts = acts_of n (known v.pass) (known c.meet.new.pass) (known c.meet.new.pass) (known c.meet-2.new.other) _ v.plan.urbs x q.seen c.meet.ensures.pass.grown (grown_none (known c.meet.new.pass)) c.meet-2.ensures.other.grown refl in
+    at_most_one q.number _ x (newest_is g.H.Host.machine g.H.Host.is_of known v (record { core = c.is_empty-answer.new.self; pass = c.meet-2.new.other; raised = v.raised; grew = true; plan = v.plan }) q.seen x ([]) e.stands c.is_empty-answer.ensures.log refl host c.know.ensures can acts refl) c.number.ensures
+
+pub returns-clause-told : goal.returns-clause-told
+returns-clause-told g c =
+    let v = c.enter-rack.result in let q = c.enter-rack.new.pass in let p = c.args.by.now.turn in let e = c.enter-rack.ensures in let plan = key_of c.args.self.now.turns in
+    let x = row c.number.result IS_EMPTY (Some c.args.anchor) None None (length v.core.victims) (cond c.is_empty-answer.result 1 0) in
+    let can : CanCall v.core.left c.number.result = may_call g.H.Host.machine g.H.Host.is_of g.H.Host.known (id_of c.args.self.now.turns) plan p q c.args.by.now.left c.number.result v c.requires.by c.requires.left e.same e.own e.stands e.key c.number.ensures in
+    let host = subst (λ (k : Plan _ _). g.H.Host.is_of k.host.value c.meet-2.new.other) (sym e.key) (subst (λ h. g.H.Host.is_of h c.meet-2.new.other) (sym c.requires.host.1) c.meet-2.ensures.here.1) in
+    let known = g.H.Host.known in let n = (known v.plan.first.value).number in
+    let middle = c.meet.ensures.pass.grown.number ∙ e.stands.number in
+    let acts = acts_of n (known v.pass) (known c.meet.new.pass) (known c.meet.new.pass) (known c.meet-2.new.other) _ v.plan.urbs x q.seen c.meet.ensures.pass.grown (grown_none (known c.meet.new.pass)) c.meet-2.ensures.other.grown refl in
+    let more = newest_is g.H.Host.machine g.H.Host.is_of known v (record { core = c.is_empty-answer.new.self; pass = c.meet-2.new.other; raised = v.raised; grew = true; plan = v.plan }) q.seen x ([]) e.stands c.is_empty-answer.ensures.log refl host c.know.ensures can acts refl in let new = grown g.H.Host.machine g.H.Host.is_of known v (record { core = c.is_empty-answer.new.self; pass = c.meet-2.new.other; raised = v.raised; grew = true; plan = v.plan }) q.seen x ([]) e.stands c.is_empty-answer.ensures.log refl host c.know.ensures can acts refl in
+    let legal = legal_by g.H.Host.machine g.H.Host.is_of known (record { core = c.is_empty-answer.new.self; pass = c.meet-2.new.other; raised = v.raised; grew = true; plan = v.plan }) plan (q.seen ++ x ∷ []) new e.key in
+    let told = told_by (sized plan) p q c.leave.new.pass x _ c.is_empty-answer.new.self.victims e.same e.begins c.leave.ensures.same more legal in
+    (length v.core.victims, numbered (sized plan) p c.leave.new.pass (λ (k : ℕ). row k IS_EMPTY (Some c.args.anchor) None None (length v.core.victims) (cond c.is_empty-answer.result 1 0)) c.number.result q.number c.number.ensures (ap (λ (z : Pass LogRow). z.number) e.same) told)
+
+pub returns-clause-sees : goal.returns-clause-sees
+returns-clause-sees g c =
+    let v = c.enter-rack.result in let q = c.enter-rack.new.pass in let p = c.args.by.now.turn in let e = c.enter-rack.ensures in let plan = key_of c.args.self.now.turns in
+    let x = row c.number.result IS_EMPTY (Some c.args.anchor) None None (length v.core.victims) (cond c.is_empty-answer.result 1 0) in
+    let can : CanCall v.core.left c.number.result = may_call g.H.Host.machine g.H.Host.is_of g.H.Host.known (id_of c.args.self.now.turns) plan p q c.args.by.now.left c.number.result v c.requires.by c.requires.left e.same e.own e.stands e.key c.number.ensures in
+    let host = subst (λ (k : Plan _ _). g.H.Host.is_of k.host.value c.meet-2.new.other) (sym e.key) (subst (λ h. g.H.Host.is_of h c.meet-2.new.other) (sym c.requires.host.1) c.meet-2.ensures.here.1) in
+    let known = g.H.Host.known in let n = (known v.plan.first.value).number in
+    let middle = c.meet.ensures.pass.grown.number ∙ e.stands.number in
+    let acts = acts_of n (known v.pass) (known c.meet.new.pass) (known c.meet.new.pass) (known c.meet-2.new.other) _ v.plan.urbs x q.seen c.meet.ensures.pass.grown (grown_none (known c.meet.new.pass)) c.meet-2.ensures.other.grown refl in
+    let more = newest_is g.H.Host.machine g.H.Host.is_of known v (record { core = c.is_empty-answer.new.self; pass = c.meet-2.new.other; raised = v.raised; grew = true; plan = v.plan }) q.seen x ([]) e.stands c.is_empty-answer.ensures.log refl host c.know.ensures can acts refl in let new = grown g.H.Host.machine g.H.Host.is_of known v (record { core = c.is_empty-answer.new.self; pass = c.meet-2.new.other; raised = v.raised; grew = true; plan = v.plan }) q.seen x ([]) e.stands c.is_empty-answer.ensures.log refl host c.know.ensures can acts refl in
+    let seen : c.leave.new.pass.seen ≡ q.seen ++ x ∷ [] = ap (λ (z : Pass LogRow). z.seen) c.leave.ensures.same ∙ ap (λ ys. q.seen ++ ys) more in
+    let k2 = known c.meet.new.pass in let made = (grown_none (known c.meet.new.pass)) in
+    let all = sees (g.H.Host.machine c.args.host.now) n v.plan.urbs (known c.args.pass.now) (known c.meet.new.other) k2 (known c.meet-2.new.pass) (known c.meet-2.new.other) (q.seen ++ x ∷ []) (g.met.H.Host.sound c.args.host.now c.args.pass.now c.requires.host.0) c.meet-2.ensures.pass.sound c.meet.ensures.pass.sound c.meet.ensures.other.grown c.meet-2.ensures.pass.grown
+    (begins_trans k2.seen (known c.meet.new.pass).seen (known c.args.pass.now).seen made.begins c.meet.ensures.met) c.meet-2.ensures.met (made.number ∙ middle) c.meet-2.ensures.other.grown new.rejects in
+    subst (λ (k : Plan _ _). Sees (known k.first.value).number (known c.args.pass.now) (known c.meet-2.new.pass) (rejects_by (known k.first.value).number k.urbs c.leave.new.pass.seen)) e.key
+    (subst (λ rs. Sees n (known c.args.pass.now) (known c.meet-2.new.pass) (rejects_by n v.plan.urbs rs)) (sym seen) all)
