@@ -98,7 +98,7 @@ returns-clause-sees g c =
     (subst (λ rs. Sees n (known c.args.pass.now) (known c.meet-2.new.pass) (rejects_by n v.plan.urbs rs)) (sym seen) all)
 
 pub raise_if-requires-clause-room : goal.raise_if-requires-clause-room
-raise_if-requires-clause-room g c =
+raise_if-requires-clause-room g c κs within =
     let v = c.enter-rack.result in let q = c.enter-rack.new.pass in let e = c.enter-rack.ensures in let known = g.H.Host.known in let n = (known v.plan.first.value).number in let a = c.args.anchor in
     let rows : v.core.rows ≡ q.seen = e.stands.rows_are in
     let low : a < v.plan.anchors = subst (λ (k : Plan _ _). a < k.anchors) (sym e.key) c.requires.anchor in

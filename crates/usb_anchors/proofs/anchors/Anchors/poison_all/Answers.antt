@@ -106,7 +106,7 @@ returns-clause-sees g c =
     (subst (λ rs. Sees n (known c.args.pass.now) (known c.meet-2.new.pass) (rejects_by n v.plan.urbs rs)) (sym seen) all)
 
 pub reject_all-requires-clause-urbs : goal.reject_all-requires-clause-urbs
-reject_all-requires-clause-urbs g c =
+reject_all-requires-clause-urbs g c κs within =
     let v = c.enter-rack.result in let q = c.enter-rack.new.pass in let e = c.enter-rack.ensures in let known = g.H.Host.known in let n = (known v.plan.first.value).number in let a = c.args.anchor in
     let rows : v.core.rows ≡ q.seen = e.stands.rows_are in
     let low : a < v.plan.anchors = subst (λ (k : Plan _ _). a < k.anchors) (sym e.key) c.requires.anchor in
@@ -118,7 +118,7 @@ reject_all-requires-clause-urbs g c =
     raise_urbs (sized v.plan) q.seen v.core.victims e.stands.legal a c.list.result.now told _ homes
 
 pub reject_all-requires-clause-apart : goal.reject_all-requires-clause-apart
-reject_all-requires-clause-apart g c =
+reject_all-requires-clause-apart g c κs within =
     let v = c.enter-rack.result in let q = c.enter-rack.new.pass in let e = c.enter-rack.ensures in let known = g.H.Host.known in let n = (known v.plan.first.value).number in let a = c.args.anchor in
     let rows : v.core.rows ≡ q.seen = e.stands.rows_are in
     let low : a < v.plan.anchors = subst (λ (k : Plan _ _). a < k.anchors) (sym e.key) c.requires.anchor in
@@ -129,7 +129,7 @@ reject_all-requires-clause-apart g c =
     raise_apart (sized v.plan) q.seen v.core.victims e.stands.legal a c.list.result.now told
 
 pub reject_all-requires-clause-room : goal.reject_all-requires-clause-room
-reject_all-requires-clause-room g c =
+reject_all-requires-clause-room g c κs within =
     let v = c.enter-rack.result in let q = c.enter-rack.new.pass in let e = c.enter-rack.ensures in let known = g.H.Host.known in let n = (known v.plan.first.value).number in let a = c.args.anchor in
     let rows : v.core.rows ≡ q.seen = e.stands.rows_are in
     let low : a < v.plan.anchors = subst (λ (k : Plan _ _). a < k.anchors) (sym e.key) c.requires.anchor in

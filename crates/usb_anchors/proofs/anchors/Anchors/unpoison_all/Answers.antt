@@ -104,7 +104,7 @@ returns-clause-sees g c =
     (subst (λ rs. Sees n (known c.args.pass.now) (known c.meet-2.new.pass) (rejects_by n v.plan.urbs rs)) (sym seen) all)
 
 pub withdraw_all-requires-clause-urbs : goal.withdraw_all-requires-clause-urbs
-withdraw_all-requires-clause-urbs g c =
+withdraw_all-requires-clause-urbs g c κs within =
     let v = c.enter-rack.result in let q = c.enter-rack.new.pass in let e = c.enter-rack.ensures in let known = g.H.Host.known in let n = (known v.plan.first.value).number in let a = c.args.anchor in
     let rows : v.core.rows ≡ q.seen = e.stands.rows_are in
     let low : a < v.plan.anchors = subst (λ (k : Plan _ _). a < k.anchors) (sym e.key) c.requires.anchor in
@@ -118,7 +118,7 @@ withdraw_all-requires-clause-urbs g c =
     withdraw_urbs (sized v.plan) q.seen a c.list.result.now told _ homes
 
 pub withdraw_all-requires-clause-apart : goal.withdraw_all-requires-clause-apart
-withdraw_all-requires-clause-apart g c =
+withdraw_all-requires-clause-apart g c κs within =
     let v = c.enter-rack.result in let q = c.enter-rack.new.pass in let e = c.enter-rack.ensures in let known = g.H.Host.known in let n = (known v.plan.first.value).number in let a = c.args.anchor in
     let rows : v.core.rows ≡ q.seen = e.stands.rows_are in
     let low : a < v.plan.anchors = subst (λ (k : Plan _ _). a < k.anchors) (sym e.key) c.requires.anchor in
@@ -131,7 +131,7 @@ withdraw_all-requires-clause-apart g c =
     withdraw_apart (sized v.plan) q.seen a c.list.result.now told
 
 pub withdraw_all-requires-clause-rejected : goal.withdraw_all-requires-clause-rejected
-withdraw_all-requires-clause-rejected g c =
+withdraw_all-requires-clause-rejected g c κs within =
     let v = c.enter-rack.result in let q = c.enter-rack.new.pass in let e = c.enter-rack.ensures in let known = g.H.Host.known in let n = (known v.plan.first.value).number in let a = c.args.anchor in
     let rows : v.core.rows ≡ q.seen = e.stands.rows_are in
     let low : a < v.plan.anchors = subst (λ (k : Plan _ _). a < k.anchors) (sym e.key) c.requires.anchor in
