@@ -120,7 +120,7 @@ in_list list us v e h = has_of us v (subst (λ l. Has l v) (ap ids e ∙ ids_nam
 list_apart : (list : List UrbId) (us : List ℕ) → list ≡ map named us → Apart us → AreApart (ids list)
 list_apart list us e a = subst AreApart (sym (ap ids e ∙ ids_named us)) (are_apart us a)
 
-list_urbs : (list : List UrbId) (us : List ℕ) (n m : ℕ) → list ≡ map named us → n ≤ m → ((v : ℕ) → has us v ≡ true → v < n) → All (λ (u : UrbId). u.0 < m) list
+pub list_urbs : (list : List UrbId) (us : List ℕ) (n m : ℕ) → list ≡ map named us → n ≤ m → ((v : ℕ) → has us v ≡ true → v < n) → All (λ (u : UrbId). u.0 < m) list
 list_urbs list us n m e l f = subst (All (λ (u : UrbId). u.0 < m)) (sym e) (members us m (λ v h. let k = f v h in omega arith))
 
 -- what a poison asks of the host

@@ -1,3 +1,4 @@
 pub mod Counted
 pub mod Turning
 pub mod Moving
+pub mod StopSteps

@@ -3,9 +3,9 @@ ghost use Rattle.std.specs.Prelude.{◌≡◌, ◌≤◌, [], vec_capacity};
 ghost use Rattle.usb_turn.specs.Shown.{passes_of};
 
 use crate::rack::Rack;
-use crate::rejects::{raise_if, reject_all, withdraw_all};
+use crate::rejects::{raise_if, withdraw_all};
 use std::sync::Wait;
-use usb_anchor::{AddFault, Victims};
+use usb_anchor::AddFault;
 use usb_machine::{Host, Meets};
 use usb_turn::{TurnPass, Turns};
 use usb_types::UrbId;
@@ -38,16 +38,15 @@ impl<H: Host> AnchorPass<H> {
 }
 
 impl<H: Meets> Anchors<H> {
-    ghost use Rattle.std.specs.Prelude.{◌≡◌, ◌+◌, ◌<◌, ◌≤◌, ℕ, Some, None, cond, length, reverse};
+    ghost use Rattle.std.specs.Prelude.{◌≡◌, ◌+◌, ◌<◌, ◌≤◌, ℕ, Some, None, cond};
     ghost use Rattle.usb_turn.specs.Shown.{id_of};
     ghost use Rattle.usb_anchors.specs.Opened.{key_of};
     ghost use Rattle.usb_anchors.specs.Host.{Sees, rejects_by};
     ghost use Rattle.usb_anchor.specs.Log.{row};
     ghost use Rattle.usb_anchor.specs.Core.{busy_of};
-    ghost use Rattle.usb_anchor.specs.Laws.{same};
-    ghost use Rattle.usb_anchor.specs.declared.log.TheConstants.{ADD, OFF, FIRST, KILL_ALL, POISON_ALL, UNPOISON_ALL, UNLINK_ALL, SCUTTLE, IS_EMPTY};
+    ghost use Rattle.usb_anchor.specs.declared.log.TheConstants.{ADD, OFF, FIRST, UNPOISON_ALL, SCUTTLE, IS_EMPTY};
     ghost use Rattle.usb_anchors.specs.Rack.{sized};
-    ghost use Rattle.usb_anchors.specs.Told.{IsCaller, IsServer, Told, Takes, Gives};
+    ghost use Rattle.usb_anchors.specs.Told.{IsCaller, IsServer, Told, Gives};
 
     /// Puts an URB last on an anchor. It is refused where the URB is on an anchor.
     pub fn add<R: Wait>(
@@ -142,101 +141,6 @@ impl<H: Meets> Anchors<H> {
         self.turns.leave(&mut by.turn, rack);
         by.left -= 1;
         answer
-    }
-
-    /// Takes an anchor's list whole, tail first.
-    pub fn kill_all<R: Wait>(
-        &self,
-        rt: &R,
-        host: &H,
-        by: &mut AnchorPass<H>,
-        pass: &mut H::Pass,
-        anchor: u32,
-        list: &mut Victims,
-    )
-        requires by { IsCaller (id_of self.now.turns) (key_of self.now.turns) by.old.turn by.old.left }
-        requires left { 0 < by.old.left }
-        requires anchor { anchor < (key_of self.now.turns).anchors }
-        requires list { (key_of self.now.turns).urbs ≤ list.old.room }
-        requires host { H.is_of host.now pass.old × ((key_of self.now.turns).host.value ≡ host.now) }
-        ensures by { IsCaller (id_of self.now.turns) (key_of self.now.turns) by.new.turn by.new.left }
-        ensures left { by.new.left + 1 ≡ by.old.left }
-        ensures told { (from : ℕ) × Takes (sized (key_of self.now.turns)) by.old.turn by.new.turn (row by.old.turn.number KILL_ALL (Some anchor) None None from (length list.new.urbs)) anchor reverse list.new.urbs }
-        ensures host { H.is_of host.now pass.new }
-        ensures sees { Sees (H.known (key_of self.now.turns).first.value).number (H.known pass.old) (H.known pass.new) (rejects_by (H.known (key_of self.now.turns).first.value).number (key_of self.now.turns).urbs by.new.turn.seen) }
-    {
-        let mut rack = self.turns.enter(rt, &mut by.turn);
-        host.meet(rt, &mut rack.pass, pass);
-        rack.core.kill_all(by.turn.number(), anchor, list);
-        rack.core.know();
-        rack.grew = true;
-        host.meet(rt, pass, &mut rack.pass);
-        self.turns.leave(&mut by.turn, rack);
-        by.left -= 1;
-    }
-
-    /// As `kill_all`, and the anchor becomes poisoned.
-    pub fn poison_all<R: Wait>(
-        &self,
-        rt: &R,
-        host: &H,
-        by: &mut AnchorPass<H>,
-        pass: &mut H::Pass,
-        anchor: u32,
-        list: &mut Victims,
-    )
-        requires by { IsCaller (id_of self.now.turns) (key_of self.now.turns) by.old.turn by.old.left }
-        requires left { 0 < by.old.left }
-        requires anchor { anchor < (key_of self.now.turns).anchors }
-        requires list { (key_of self.now.turns).urbs ≤ list.old.room }
-        requires host { H.is_of host.now pass.old × ((key_of self.now.turns).host.value ≡ host.now) }
-        ensures by { IsCaller (id_of self.now.turns) (key_of self.now.turns) by.new.turn by.new.left }
-        ensures left { by.new.left + 1 ≡ by.old.left }
-        ensures told { (from : ℕ) × Takes (sized (key_of self.now.turns)) by.old.turn by.new.turn (row by.old.turn.number POISON_ALL (Some anchor) None None from (length list.new.urbs)) anchor reverse list.new.urbs }
-        ensures host { H.is_of host.now pass.new }
-        ensures sees { Sees (H.known (key_of self.now.turns).first.value).number (H.known pass.old) (H.known pass.new) (rejects_by (H.known (key_of self.now.turns).first.value).number (key_of self.now.turns).urbs by.new.turn.seen) }
-    {
-        let mut rack = self.turns.enter(rt, &mut by.turn);
-        host.meet(rt, &mut rack.pass, pass);
-        rack.core
-            .poison_all_telling(by.turn.number(), anchor, list, &mut rack.raised);
-        reject_all(rt, host, &mut rack.pass, rack.raised.list());
-        rack.core.know();
-        rack.grew = true;
-        host.meet(rt, pass, &mut rack.pass);
-        self.turns.leave(&mut by.turn, rack);
-        by.left -= 1;
-    }
-
-    /// Takes an anchor's list whole, head first.
-    pub fn unlink_all<R: Wait>(
-        &self,
-        rt: &R,
-        host: &H,
-        by: &mut AnchorPass<H>,
-        pass: &mut H::Pass,
-        anchor: u32,
-        list: &mut Victims,
-    )
-        requires by { IsCaller (id_of self.now.turns) (key_of self.now.turns) by.old.turn by.old.left }
-        requires left { 0 < by.old.left }
-        requires anchor { anchor < (key_of self.now.turns).anchors }
-        requires list { (key_of self.now.turns).urbs ≤ list.old.room }
-        requires host { H.is_of host.now pass.old × ((key_of self.now.turns).host.value ≡ host.now) }
-        ensures by { IsCaller (id_of self.now.turns) (key_of self.now.turns) by.new.turn by.new.left }
-        ensures left { by.new.left + 1 ≡ by.old.left }
-        ensures told { (from : ℕ) × Takes (sized (key_of self.now.turns)) by.old.turn by.new.turn (row by.old.turn.number UNLINK_ALL (Some anchor) None None from (length list.new.urbs)) anchor same list.new.urbs }
-        ensures host { H.is_of host.now pass.new }
-        ensures sees { Sees (H.known (key_of self.now.turns).first.value).number (H.known pass.old) (H.known pass.new) (rejects_by (H.known (key_of self.now.turns).first.value).number (key_of self.now.turns).urbs by.new.turn.seen) }
-    {
-        let mut rack = self.turns.enter(rt, &mut by.turn);
-        host.meet(rt, &mut rack.pass, pass);
-        rack.core.unlink_all(by.turn.number(), anchor, list);
-        rack.core.know();
-        rack.grew = true;
-        host.meet(rt, pass, &mut rack.pass);
-        self.turns.leave(&mut by.turn, rack);
-        by.left -= 1;
     }
 
     /// The anchor is poisoned no more.

@@ -6,6 +6,9 @@ mod closes;
 mod opens;
 mod rack;
 mod rejects;
+mod stopping;
+mod stops;
+mod takes;
 
 pub use anchors::{AnchorPass, Anchors};
 pub use rack::{Plan, Rack};

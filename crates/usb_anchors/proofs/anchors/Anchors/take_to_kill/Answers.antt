@@ -14,7 +14,11 @@ use Rattle.usb_anchors.specs.declared.rack.Plan.{Plan}
 use Rattle.usb_anchors.specs.Told.{Takes}
 use Rattle.usb_anchors.proofs.Turning.{grown, newest_is, grown_newest, told_by, at_most_one, may_call, legal_by, acts_of, sees}
 use Rattle.usb_machine.proofs.Growing.{grown_none, begins_trans}
-use Rattle.usb_anchors.proofs.anchors.Anchors.kill_all.Goals as goal
+use Rattle.usb_anchor.proofs.ByRows.{all_below}
+use Rattle.usb_anchors.proofs.Counted.{list_urbs}
+use Rattle.usb_anchor.proofs.Members.{has_reverse}
+use Rattle.std.proofs.Common.{◌≤◌}
+use Rattle.usb_anchors.proofs.anchors.Anchors.take_to_kill.Goals as goal
 
 pub leave-requires-clause-stands : goal.leave-requires-clause-stands
 leave-requires-clause-stands g c =
@@ -76,3 +80,11 @@ returns-clause-sees g c =
     (begins_trans k2.seen (known c.meet.new.pass).seen (known c.args.pass.now).seen made.begins c.meet.ensures.met) c.meet-2.ensures.met (made.number ∙ middle) c.meet-2.ensures.other.grown new.rejects in
     subst (λ (k : Plan _ _). Sees (known k.first.value).number (known c.args.pass.now) (known c.meet-2.new.pass) (rejects_by (known k.first.value).number k.urbs c.leave.new.pass.seen)) e.key
     (subst (λ rs. Sees n (known c.args.pass.now) (known c.meet-2.new.pass) (rejects_by n v.plan.urbs rs)) (sym seen) all)
+
+pub returns-clause-inside : goal.returns-clause-inside
+returns-clause-inside g c =
+    let v = c.enter-rack.result in let q = c.enter-rack.new.pass in let e = c.enter-rack.ensures in
+    let homes = subst (λ h. v.plan.urbs ≤ length (g.H.Host.machine h).layout.homes) (ap (λ (k : Plan _ _). k.host.value) e.key ∙ c.requires.host.1) e.stands.fits.inside in
+    let whole : c.kill_all.new.list.urbs ≡ map named (reverse (list_of q.seen c.args.anchor)) = ap (λ (t : VictimsTold). t.urbs) c.kill_all.ensures.list ∙ ap (λ rs. map named (reverse (list_of rs c.args.anchor))) e.stands.rows_are in
+    list_urbs c.kill_all.new.list.urbs (reverse (list_of q.seen c.args.anchor)) v.plan.urbs _ whole homes
+    (λ u h. (all_below (sized v.plan) q.seen v.core.victims e.stands.legal c.args.anchor).listed u (has_reverse (list_of q.seen c.args.anchor) u h))

@@ -22,7 +22,10 @@ use Rattle.usb_machine.specs.HostCalls.{IsUrb}
 use Rattle.usb_cancel.specs.Flushing.{ids, AreApart, Has}
 use Rattle.usb_cancel.specs.Reopening.{rejects_of as all_rejects}
 use Rattle.usb_anchors.proofs.Counted.{ids_named, raise_urbs, raise_apart, raise_room}
-use Rattle.usb_anchors.proofs.anchors.Anchors.poison_all.Goals as goal
+use Rattle.usb_anchor.proofs.ByRows.{all_below}
+use Rattle.usb_anchors.proofs.Counted.{list_urbs}
+use Rattle.usb_anchor.proofs.Members.{has_reverse}
+use Rattle.usb_anchors.proofs.anchors.Anchors.take_poisoned.Goals as goal
 
 pub leave-requires-clause-stands : goal.leave-requires-clause-stands
 leave-requires-clause-stands g c =
@@ -138,3 +141,11 @@ reject_all-requires-clause-room g c κs within =
     let told : c.list.result.now ≡ map named (unheld (anchor_of q.seen a) (reverse (list_of q.seen a)))
     = c.list.ensures ∙ (ap (λ (t : VictimsTold). t.urbs) c.poison_all_telling.ensures.raised ∙ ap (λ rs. map named (unheld (anchor_of rs a) (reverse (list_of rs a)))) rows) in
     raise_room (g.H.Host.machine c.args.host.now) (sized v.plan) (known c.meet.new.pass) n q.seen v.core.victims e.stands.legal sound mine a low e.stands.fits.few c.list.result.now told
+
+pub returns-clause-inside : goal.returns-clause-inside
+returns-clause-inside g c =
+    let v = c.enter-rack.result in let q = c.enter-rack.new.pass in let e = c.enter-rack.ensures in
+    let homes = subst (λ h. v.plan.urbs ≤ length (g.H.Host.machine h).layout.homes) (ap (λ (k : Plan _ _). k.host.value) e.key ∙ c.requires.host.1) e.stands.fits.inside in
+    let whole : c.poison_all_telling.new.list.urbs ≡ map named (reverse (list_of q.seen c.args.anchor)) = ap (λ (t : VictimsTold). t.urbs) c.poison_all_telling.ensures.list ∙ ap (λ rs. map named (reverse (list_of rs c.args.anchor))) e.stands.rows_are in
+    list_urbs c.poison_all_telling.new.list.urbs (reverse (list_of q.seen c.args.anchor)) v.plan.urbs _ whole homes
+    (λ u h. (all_below (sized v.plan) q.seen v.core.victims e.stands.legal c.args.anchor).listed u (has_reverse (list_of q.seen c.args.anchor) u h))
