@@ -1,12 +1,11 @@
 -- What the anchors' pass of a host holds on an URB: one reject for each anchor that holds one.
-use Rattle.std.proofs.Common.{◌≡◌, ◌⊎◌, inl, inr, ⊎_elim, ℕ, zero, suc, ◌+◌, ◌<◌, ◌≤◌, Bool, true, false, not, ◌&&◌, ◌||◌, cond, eqb, List, [], ◌∷◌, ◌++◌, filter, fold, map, reverse, sym, refl, ap, ◌∙◌, subst, arith, eq-eqb, ne_eqb}
+use Rattle.std.proofs.Common.{◌≡◌, ⊎_elim, ℕ, zero, suc, ◌+◌, ◌<◌, ◌≤◌, Bool, true, false, not, ◌&&◌, ◌||◌, cond, eqb, List, [], ◌∷◌, filter, fold, map, reverse, sym, refl, ap, ◌∙◌, subst, arith, eq-eqb}
 use Rattle.std.specs.List.{All}
 use Rattle.std.proofs.lemmas.Bool.{cases_eq, cases_lt, false≢true}
 use Rattle.usb_types.specs.declared.urb.UrbId.{UrbId}
-use Rattle.usb_machine.specs.declared.event.Event.TheVariants.{Reject, Withdraw}
 use Rattle.usb_machine.specs.declared.entry.Entry.{Entry}
 use Rattle.usb_machine.specs.History.{Machine}
-use Rattle.usb_machine.specs.Parts.{held_of, part_of}
+use Rattle.usb_machine.specs.Parts.{held_of}
 use Rattle.usb_machine.specs.Fresh.{Known, Sound}
 use Rattle.usb_machine.specs.Laws.{rejects, withdraws, rejects_after, withdraws_after}
 use Rattle.usb_machine.proofs.Held.{rejects_are_counted}
@@ -16,7 +15,7 @@ use Rattle.usb_anchor.specs.declared.log.LogRow.{LogRow}
 use Rattle.usb_anchor.specs.Anchor.{Anchor, has}
 use Rattle.usb_anchor.specs.Apart.{Apart}
 use Rattle.usb_anchor.specs.Log.{Size, IsLog, anchor_of, list_of, named}
-use Rattle.usb_anchor.specs.Rejects.{Step, raises as raise, withdraws as withdraw, rejects_of, unheld, numbers_below, bit, total, holders, raises_all, withdraws_all}
+use Rattle.usb_anchor.specs.Rejects.{Step, raises as raise, withdraws as withdraw, rejects_of, unheld, numbers_below, bit, holders, raises_all, withdraws_all}
 use Rattle.usb_anchor.proofs.Lists.{apart_push}
 use Rattle.usb_anchor.proofs.Summing.{all_counted, holders_room}
 use Rattle.usb_anchor.proofs.ByRows.{apart_lists, all_below}

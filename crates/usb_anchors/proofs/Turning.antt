@@ -10,7 +10,7 @@ use Rattle.usb_turn.specs.Pass.{Pass, entered, left, AtMostOne}
 use Rattle.usb_anchor.specs.declared.log.LogRow.{LogRow}
 use Rattle.usb_anchor.specs.declared.log.TheConstants.{ADD}
 use Rattle.usb_anchor.specs.Anchor.{Anchor, has, added, raised}
-use Rattle.usb_anchor.specs.Log.{Size, IsLog, anchor_of, row, named}
+use Rattle.usb_anchor.specs.Log.{Size, IsLog, anchor_of, row}
 use Rattle.usb_anchor.proofs.ByRows.{has_raised}
 use Rattle.usb_anchor.specs.Core.{Core, size_of, CanCall, called, given, spent}
 use Rattle.usb_anchors.specs.declared.rack.Rack.{Rack}
@@ -23,7 +23,6 @@ use Rattle.usb_machine.specs.History.{Machine}
 use Rattle.usb_machine.specs.Parts.{part_of}
 use Rattle.usb_machine.specs.Calls.{plain_entry}
 use Rattle.usb_machine.specs.Fresh.{Known, Grown, Sound, Begins as Beginning}
-use Rattle.usb_cancel.specs.Flushing.{ids}
 use Rattle.usb_cancel.specs.Reopening.{rejects_of as all_rejects, withdraws_of as all_withdraws}
 use Rattle.usb_anchors.specs.Host.{entry_of, rejects_by, Sees}
 use Rattle.usb_anchors.specs.Rack.{Stands, Fits, by_of, lasts, sized}

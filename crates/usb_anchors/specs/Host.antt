@@ -1,6 +1,5 @@
 -- The rejects of a log as entries of the anchors' pass of a host, and what a caller's pass then sees of them.
-use Rattle.std.specs.Prelude.{◌≡◌, ℕ, List, [], map}
-use Rattle.usb_types.specs.declared.urb.UrbId.{UrbId}
+use Rattle.std.specs.Prelude.{◌≡◌, ℕ, List, map}
 use Rattle.usb_machine.specs.declared.event.Event.TheVariants.{Reject, Withdraw}
 use Rattle.usb_machine.specs.declared.entry.Entry.{Entry}
 use Rattle.usb_machine.specs.Parts.{part_of}

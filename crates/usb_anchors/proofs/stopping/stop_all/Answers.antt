@@ -1,5 +1,4 @@
 use Rattle.std.proofs.Common.{◌+◌, ◌<◌, drop, get_or, subst, sym}
-use Rattle.usb_machine.specs.Parts.{held_of}
 use Rattle.usb_cancel.specs.Flushing.{ids}
 use Rattle.usb_cancel.proofs.Flushes.{ids_at, ids_end, has_at}
 use Rattle.usb_anchors.proofs.StopSteps.{Stopping, stop_start, stop_next, stop_end}

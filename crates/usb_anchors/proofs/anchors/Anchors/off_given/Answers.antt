@@ -1,6 +1,5 @@
 use Rattle.std.proofs.Common.{◌≡◌, true, ℕ, ◌++◌, ◌∷◌, [], length, Some, None, refl, ap, sym, ◌∙◌, subst}
 use Rattle.usb_turn.specs.Pass.{Pass}
-use Rattle.usb_turn.specs.Shown.{first_of}
 use Rattle.usb_anchors.specs.Opened.{key_of}
 use Rattle.usb_anchor.specs.declared.log.LogRow.{LogRow}
 use Rattle.usb_anchor.specs.declared.log.TheConstants.{OFF}

@@ -1,6 +1,5 @@
 use Rattle.std.proofs.Common.{◌≡◌, true, ℕ, ◌++◌, ◌∷◌, [], length, map, reverse, Some, None, refl, ap, sym, ◌∙◌, subst}
 use Rattle.std.proofs.lemmas.List.{length-map, length-reverse}
-use Rattle.usb_types.specs.declared.urb.UrbId.{UrbId}
 use Rattle.usb_turn.specs.Pass.{Pass}
 use Rattle.usb_turn.specs.Shown.{id_of}
 use Rattle.usb_anchors.specs.Opened.{key_of}
@@ -18,8 +17,7 @@ use Rattle.usb_anchors.specs.Told.{Takes}
 use Rattle.usb_anchors.proofs.Turning.{grown, newest_is, grown_newest, told_by, at_most_one, may_call, legal_by, acts_of, sees, list_raises}
 use Rattle.usb_machine.proofs.Growing.{begins_trans}
 use Rattle.std.proofs.Common.{append-nil, ◌<◌, ◌≤◌, true}
-use Rattle.usb_machine.specs.HostCalls.{IsUrb}
-use Rattle.usb_cancel.specs.Flushing.{ids, AreApart, Has}
+use Rattle.usb_cancel.specs.Flushing.{ids}
 use Rattle.usb_cancel.specs.Reopening.{rejects_of as all_rejects}
 use Rattle.usb_anchors.proofs.Counted.{ids_named, raise_urbs, raise_apart, raise_room}
 use Rattle.usb_anchor.proofs.ByRows.{all_below}

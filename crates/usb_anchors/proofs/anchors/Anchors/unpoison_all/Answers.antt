@@ -1,5 +1,4 @@
-use Rattle.std.proofs.Common.{◌≡◌, true, false, ℕ, ◌++◌, ◌∷◌, [], filter, length, map, Some, None, refl, ap, sym, ◌∙◌, subst}
-use Rattle.usb_types.specs.declared.urb.UrbId.{UrbId}
+use Rattle.std.proofs.Common.{◌≡◌, true, ℕ, ◌++◌, ◌∷◌, [], filter, length, map, Some, None, refl, ap, sym, ◌∙◌, subst}
 use Rattle.usb_turn.specs.Pass.{Pass}
 use Rattle.usb_turn.specs.Shown.{id_of}
 use Rattle.usb_anchors.specs.Opened.{key_of}
@@ -17,7 +16,7 @@ use Rattle.usb_anchors.specs.declared.rack.Plan.{Plan}
 use Rattle.usb_anchors.proofs.Turning.{grown, newest_is, grown_newest, told_by, at_most_one, may_call, legal_by, numbered, acts_of, sees, list_withdraws}
 use Rattle.usb_machine.proofs.Growing.{begins_trans}
 use Rattle.std.proofs.Common.{append-nil, ◌<◌, ◌≤◌}
-use Rattle.usb_cancel.specs.Flushing.{ids, AreApart, Has}
+use Rattle.usb_cancel.specs.Flushing.{ids}
 use Rattle.usb_cancel.specs.Reopening.{withdraws_of as all_withdraws}
 use Rattle.usb_anchors.proofs.Counted.{ids_named, withdraw_urbs, withdraw_apart, withdraw_some}
 use Rattle.usb_anchors.proofs.anchors.Anchors.unpoison_all.Goals as goal
