@@ -35,12 +35,16 @@ stop_keeps m n u v a = ap (λ (d : Held). d.rejects) (fold-append (λ d (x : Ent
   where
     one : Bool → Held → Held
     one b d = cond b (held_after d (Reject record { 0 = u })) d
+
     two : Bool → Held → Held
     two b d = cond b (held_after d (Mark record { 0 = u } Kill)) d
+
     three : Bool → Held → Held
     three b d = cond b (held_after d (Quiet record { 0 = u })) d
+
     four : Bool → Held → Held
     four b d = cond b (held_after d (Withdraw record { 0 = u })) d
+
     go : (b : Bool) (d : Held) → (four b (three b (two b (one b d)))).rejects ≡ d.rejects
     go true d = omega arith
     go false d = refl
