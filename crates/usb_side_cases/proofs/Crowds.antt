@@ -16,13 +16,9 @@ use Rattle.usb_machine.specs.Parts.{part_of, held_of, held_after, nothing_held, 
 use Rattle.usb_machine.specs.Calls.{entry, plain_entry, mark_entry, submit_entries, unlink_entries, kill_entries, poison_entries}
 use Rattle.usb_machine.specs.Fresh.{Known, Grown, Fresh}
 use Rattle.usb_machine.specs.HostCalls.{Submitted, answer_of_submit, fault_at, shape_of}
-use Rattle.usb_machine.specs.Legal.{IsLegal}
-use Rattle.usb_machine.specs.Laws.{submits, gives, ends, bit, TakesTurns, IsKept}
 use Rattle.usb_machine.specs.Tokens.{AreAll, OneKeeps, IsClosed, unused, unused_from}
 use Rattle.usb_machine.proofs.Growing.{grown_more}
 use Rattle.usb_machine.proofs.Steps.{held_of-snoc}
-use Rattle.usb_machine.proofs.Turns.{takes_turns}
-use Rattle.usb_machine.proofs.Kept.{is_kept}
 use Rattle.usb_host_cases.specs.Ran.{MayReject}
 use Rattle.usb_host_cases.proofs.Passes.{count, new_at, length_known, known_at}
 use Rattle.usb_side_cases.specs.Rounds.{Made}
@@ -74,14 +70,6 @@ pub poisoned_last : (g : Machine) (p q r : Known) (u : ℕ) (rest : Option ℕ) 
 poisoned_last g p q r u rest old f =
     let last : Grown q r (poison_entries p.number u f.0 rest) = subst (λ n. Grown q r (poison_entries n u f.0 rest)) old.2.number f.1.grown in
     (old.0 ++ poison_entries p.number u f.0 rest, (old.0, old.1, f.0, rest, refl), grown_more p q r old.0 (poison_entries p.number u f.0 rest) old.2 last)
-
--- an URB that a pass keeps came back as often as it was accepted, and each of its handlers has ended
-pub all_back : (g : Machine) (u p : ℕ) (h : List Entry) → IsLegal g h → p < g.passes → keeps (part_of h p) u ≡ true → (gives h u ≡ submits h u) × (ends h u ≡ submits h u)
-all_back g u p h legal below kept =
-    let stays : IsKept h p u = is_kept g p u h legal below kept in
-    let turns : TakesTurns h u = takes_turns g u h legal in
-    let none : bit (state_of h u).queued ≡ 0 = ap bit stays.queued in
-    (omega (arith, turns.turns, none), omega (arith, turns.turns, turns.handlers, none, stays.handlers))
 
 module _ {P : Type 0} (known : P → Known) (n : ℕ) (ps : List P) (new : map known ps ≡ unused_from 2 n) (g : Machine) (is_of : P → Type 0) (u : ℕ) (qs : List P) (d : P) (ran : CalledAll g known is_of u ps qs) where
   pub all_here : All is_of qs

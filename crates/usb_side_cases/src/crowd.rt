@@ -2,39 +2,23 @@
 ghost use Rattle.std.specs.Prelude.{◌≡◌, true, All, IfOk};
 ghost use Rattle.usb_machine.specs.declared.entry.TheConstants.{SERVER};
 ghost use Rattle.usb_machine.specs.Parts.{keeps};
-ghost use Rattle.usb_machine.specs.Shapes.{HasWindow};
 ghost use Rattle.usb_serve.specs.Held.{Agrees};
 ghost use Rattle.usb_side.specs.Side.{IsWholeSide, side_knows};
 ghost use Rattle.usb_host_cases.specs.Ran.{MayReject};
 ghost use Rattle.usb_side_cases.specs.Rounds.{Made};
 ghost use Rattle.usb_side_cases.specs.Crowd.{AreCalls, AreLastCalls, MayCall, Called, CalledAll};
 
+use crate::rounds::empty;
 use crate::serving::serve_until;
 use std::alloc::{AllocError, Global};
 use std::sync::Wait;
 use std::sync::atomic::{AtomicBool, Ordering};
 use std::thread::{self, Threads, join};
 use usb_cancel::{kill, poison};
-use usb_machine::{Host, Serves, Token, Transfer};
+use usb_machine::{Host, Serves, Token};
 use usb_serve::Controller;
-use usb_types::{Buf, UrbId, Why};
+use usb_types::{UrbId, Why};
 use usb_xfer::Device;
-
-/// A transfer of no bytes.
-fn empty(alloc: Global) -> Transfer
-    ensures window { HasWindow result }
-    ensures unmoved { result.actual ≡ 0 }
-{
-    Transfer {
-        setup: None,
-        buf: Buf::of(Vec::new(alloc)),
-        from: 0,
-        len: 0,
-        short_not_ok: false,
-        actual: 0,
-        number: 0,
-    }
-}
 
 /// Submits the URB, unlinks it and kills it.
 fn call_once<H: Host, R: Wait>(rt: &R, alloc: Global, host: &H, pass: &mut H::Pass, urb: UrbId)
@@ -43,7 +27,7 @@ fn call_once<H: Host, R: Wait>(rt: &R, alloc: Global, host: &H, pass: &mut H::Pa
     ensures made { Made (AreCalls (H.machine host.now) urb.0 (H.known pass.old).number) (H.known pass.old) (H.known pass.new) }
     ensures room { MayReject (H.known pass.new) urb.0 }
 {
-    let _answer = host.submit(rt, pass, urb, empty(alloc));
+    let _answer = host.submit(rt, pass, urb, empty(alloc, 0));
     thread::yield_now();
     host.unlink(rt, pass, urb, Why::Unlink);
     let _rest = kill(rt, host, pass, urb);

@@ -8,8 +8,8 @@ use Rattle.usb_machine.specs.Replay.{machine_for}
 use Rattle.usb_host_cases.specs.Ran.{MayReject}
 use Rattle.usb_host_cases.proofs.Passes.{may_all}
 use Rattle.usb_side_cases.specs.Crowd.{AreCalls, AreLastCalls, CalledAll}
-use Rattle.usb_side_cases.proofs.Closed.{number_of_new, part_made}
-use Rattle.usb_side_cases.proofs.Crowds.{all_here, are_all, parts_are, all_back}
+use Rattle.usb_side_cases.proofs.Closed.{number_of_new, part_made, own_kept, all_back}
+use Rattle.usb_side_cases.proofs.Crowds.{all_here, are_all, parts_are}
 use Rattle.usb_side_cases.proofs.gathered.crowd_in_threads.Goals as goal
 
 pub call_and_serve-server-requires-clause-hub : goal.call_and_serve-server-requires-clause-hub
@@ -86,7 +86,5 @@ returns-clause-back g c =
     let q : Known = known (g.H.Hub.Token.own c.call_and_serve-server.result.1.0) in
     let g2 : Machine = machine_for c.args.layout c.args.passes in
     let legal : IsLegal g2 h = subst (λ m. IsLegal m h) opened.machine c.close.ensures.legal in
-    let own : part_of h q.number ≡ q.mine = c.close.ensures.own 1 q (omega arith) in
     let number : q.number ≡ 1 = number_of_new (λ p. AreLastCalls (g.H.Host.machine c.in_ok-parts.parts.host) u p) (known (g.H.Hub.Token.own c.in_ok-parts.parts.hub)) q 1 opened.tokens.1 c.call_and_serve-server.ensures.hub in
-    let kept : keeps (part_of h 1) u ≡ true = ap (λ n. keeps (part_of h n) u) (sym number) ∙ (ap (λ m. keeps m u) own ∙ c.call_and_serve-server.ensures.kept) in
-    all_back g2 u 1 h legal (omega arith) kept
+    all_back g2 u 1 h legal (omega arith) (own_kept h q u 1 number (c.close.ensures.own 1 q (omega arith)) c.call_and_serve-server.ensures.kept)
