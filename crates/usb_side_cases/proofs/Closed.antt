@@ -1,12 +1,12 @@
 -- What the history of a closed race has of its passes.
-use Rattle.std.proofs.Common.{◌≡◌, ℕ, ◌<◌, true, List, [], ◌∷◌, refl, sym, ap, ◌∙◌, subst, arith}
+use Rattle.std.proofs.Common.{◌≡◌, ℕ, ◌<◌, true, List, [], ◌∷◌, sym, ap, ◌∙◌, subst, arith}
 use Rattle.usb_machine.specs.declared.entry.Entry.{Entry}
-use Rattle.usb_machine.specs.History.{Machine, HasHome, state_of}
+use Rattle.usb_machine.specs.History.{Machine, state_of}
 use Rattle.usb_machine.specs.Parts.{part_of, keeps}
 use Rattle.usb_machine.specs.Legal.{IsLegal}
 use Rattle.usb_machine.specs.Laws.{submits, gives, ends, bit, TakesTurns, IsKept}
 use Rattle.usb_machine.specs.Fresh.{Known}
-use Rattle.usb_machine.specs.Tokens.{AreAll, OneKeeps, unused}
+use Rattle.usb_machine.specs.Tokens.{AreAll, unused}
 use Rattle.usb_machine.proofs.Turns.{takes_turns}
 use Rattle.usb_machine.proofs.Kept.{is_kept}
 use Rattle.usb_host_cases.proofs.Ends.{four_numbers, part_is}

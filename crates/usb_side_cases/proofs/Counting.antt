@@ -1,5 +1,5 @@
 -- Many calls by one pass, one more at a time.
-use Rattle.std.proofs.Common.{◌≡◌, ℕ, ◌+◌, ◌-◌, ◌<◌, Bool, true, cond, eqb, List, [], ◌∷◌, ◌++◌, Option, None, Result, fold, sym, refl, ap, ◌∙◌, subst, arith, eq-eqb}
+use Rattle.std.proofs.Common.{◌≡◌, ℕ, ◌+◌, ◌-◌, ◌<◌, Bool, cond, List, [], ◌++◌, Option, Result, sym, refl, ap, ◌∙◌, subst, arith, eq-eqb}
 use Rattle.std.proofs.lemmas.List.Sums.{fold-append}
 use Rattle.usb_types.specs.declared.errno.Code.{Code}
 use Rattle.usb_types.specs.declared.urb.Why.TheVariants.{Kill}

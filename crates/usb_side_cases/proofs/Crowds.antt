@@ -1,22 +1,22 @@
 -- The calls of a crowd's threads, and its passes when all of them are done.
-use Rattle.std.proofs.Common.{◌≡◌, ℕ, zero, suc, ◌+◌, ◌<◌, Bool, true, false, cond, eqb, List, [], ◌∷◌, ◌++◌, Option, None, Some, Result, if◌then◌else◌, fold, length, get_or, map, Any, All, sym, refl, ap, ◌∙◌, subst, arith, append-nil}
+use Rattle.std.proofs.Common.{◌≡◌, ℕ, zero, suc, ◌+◌, ◌<◌, Bool, true, false, cond, eqb, List, [], ◌∷◌, ◌++◌, Option, None, Some, Result, if◌then◌else◌, fold, get_or, map, Any, All, sym, refl, ap, ◌∙◌, subst, arith, append-nil}
 use Rattle.std.proofs.lemmas.List.Sums.{fold-append}
 use Rattle.usb_types.specs.declared.errno.Code.{Code}
 use Rattle.usb_types.specs.declared.errno.Errno.{Errno}
 use Rattle.usb_types.specs.declared.urb.Why.TheVariants.{Unlink}
 use Rattle.usb_machine.specs.declared.entry.Entry.{Entry}
-use Rattle.usb_machine.specs.declared.event.Event.TheVariants.{Submit, Link, Mark}
+use Rattle.usb_machine.specs.declared.event.Event.TheVariants.{Submit, Link}
 use Rattle.usb_machine.specs.declared.event.Answer.TheVariants.{Code as Status}
 use Rattle.usb_machine.specs.declared.pass_row.Held.{Held}
 use Rattle.usb_machine.specs.declared.transfer.Transfer.{Transfer}
 use Rattle.usb_machine.specs.declared.host_answers.Refused.{Refused}
 use Rattle.usb_machine.specs.State.{is_zero}
-use Rattle.usb_machine.specs.History.{Machine, HasHome, is_of, state_of}
-use Rattle.usb_machine.specs.Parts.{part_of, held_of, held_after, nothing_held, keeps}
+use Rattle.usb_machine.specs.History.{Machine, is_of}
+use Rattle.usb_machine.specs.Parts.{part_of, held_of, held_after, nothing_held}
 use Rattle.usb_machine.specs.Calls.{entry, plain_entry, mark_entry, submit_entries, unlink_entries, kill_entries, poison_entries}
 use Rattle.usb_machine.specs.Fresh.{Known, Grown, Fresh}
 use Rattle.usb_machine.specs.HostCalls.{Submitted, answer_of_submit, fault_at, shape_of}
-use Rattle.usb_machine.specs.Tokens.{AreAll, OneKeeps, IsClosed, unused, unused_from}
+use Rattle.usb_machine.specs.Tokens.{AreAll, IsClosed, unused_from}
 use Rattle.usb_machine.proofs.Growing.{grown_more}
 use Rattle.usb_machine.proofs.Steps.{held_of-snoc}
 use Rattle.usb_host_cases.specs.Ran.{MayReject}

@@ -50,7 +50,9 @@ pub fn race_in_threads<H: Opens + Sync, R: Threads + Wait + Sync>(
         hub,
         passes,
     } = parts;
-    let (server, raced) = race_and_serve(rt, alloc, &host, server, controller, hub, a, b, urb, times);
+    let (server, raced) = race_and_serve(
+        rt, alloc, &host, server, controller, hub, a, b, urb, times,
+    );
     let (hub, (a, b)) = raced;
     let Ok(closed) = close_two(host, server, hub, passes, a, b) else {
         return Err(Memory);

@@ -1,4 +1,4 @@
-use Rattle.std.proofs.Common.{◌≡◌, ℕ, ◌+◌, true, refl, sym, ap, ◌∙◌, subst, arith, IfOk}
+use Rattle.std.proofs.Common.{◌≡◌, ℕ, ◌+◌, true, refl, sym, ap, subst, arith, IfOk}
 use Rattle.usb_machine.specs.declared.entry.TheConstants.{HUB}
 use Rattle.usb_machine.specs.History.{Machine, HasHome}
 use Rattle.usb_machine.specs.Legal.{IsLegal}
